@@ -1,0 +1,4 @@
+pub mod Refusals
+pub mod Print
+pub mod Said
+pub mod RefusalLaws
