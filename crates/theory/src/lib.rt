@@ -1,0 +1,1 @@
+// The theory of readings: specs/ has it all. Nothing runs here.

@@ -1,0 +1,4 @@
+pub mod Word
+pub mod WordLaws
+pub mod MachineLaws
+pub mod EndLaws
