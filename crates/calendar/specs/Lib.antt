@@ -1,0 +1,10 @@
+pub mod Calendar
+pub mod CalendarLaws
+pub mod Numbering
+pub mod Ascending
+pub mod AscendingLaws
+pub mod DateText
+pub mod DateTextLaws
+pub mod DateAnswers
+pub mod DaysFound
+pub mod DateAnswersLaws

@@ -1,0 +1,4 @@
+pub mod Counts
+pub mod Gaps
+pub mod Zeros
+pub mod Shows

@@ -1,0 +1,4 @@
+pub mod Answers
+pub mod Asked
+pub mod Bits
+pub mod AskedLaws

@@ -1,0 +1,13 @@
+pub mod Layout
+pub mod Post
+pub mod LayoutLaws
+pub mod Checks
+pub mod CheckLaws
+pub mod Cells
+pub mod Shape
+pub mod ShapeLaws
+pub mod Answers
+pub mod AnswerLaws
+pub mod Strike
+pub mod StrikeLaws
+pub mod Theorems
