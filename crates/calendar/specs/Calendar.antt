@@ -46,6 +46,18 @@ yearLength y = sum 13 (monthLength y)
 unfoldable pub real : Date → Bool
 real t = leb 1 (t .day) && leb (t .day) (monthLength (t .year) (t .month))
 
+-- what makes a date real: one of the twelve months, and one of its days
+pub record InCalendar (t : Date) : Type 0 where
+  pub month-from : 1 ≤ t .month
+  pub month-upto : t .month ≤ 12
+  pub day-from : 1 ≤ t .day
+  pub day-upto : t .day ≤ monthLength (t .year) (t .month)
+
+-- a real date from 2000 on
+pub record Counted (t : Date) : Type 0 where
+  pub isReal : T (real t)
+  pub from : firstYear ≤ t .year
+
 -- a real date of the years 2000 to 2099
 pub record OfCentury (t : Date) : Type 0 where
   pub isReal : T (real t)

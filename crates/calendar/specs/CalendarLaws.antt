@@ -1,15 +1,15 @@
--- What makes a date real, and how the days before a year, a month and a day add up.
+-- How long months and years are, and what makes a date real.
 use mathlib.Core.Path.{_≡_, refl}
+use mathlib.Core.Logic.{_⊎_, inl, inr}
 use mathlib.Core.Bool.{Bool, true, false, cond}
 use Prim.Native.Nat.{ℕ, zero, suc, _+_, _≤_, _<_}
 use native.Mathlib.Nat.{le-refl}
 use native.Mathlib.Omega.{arith}
 use lib.Dec.{T, leb, leb→le, le→leb}
 use lib.ListN.{getD, List·getD-eq-default}
-use mathlib.Core.Logic.{_⊎_, inl, inr}
 use Rattle.theory.specs.Bound.{all, sum, val}
 use Rattle.theory.specs.BoundLaws.{and-i, and-l, and-r, all-e, lt-or-ge, below-suc}
-use Rattle.calendar.specs.Calendar.{Date, leap, months, monthLength, yearLength, real}
+use Rattle.calendar.specs.Calendar.{Date, leap, months, monthLength, yearLength, real, InCalendar}
 
 -- a sum grows with its terms
 pub sum-upto : (n m : ℕ) (f : ℕ → ℕ) → n ≤ m → sum n f ≤ sum m f
@@ -23,13 +23,6 @@ sum-upto n (suc m) f h = pick (below-suc {i = n} {n = suc m} (omega arith)) (sum
     pick : (n ≡ suc m) ⊎ (n < suc m) → (n ≤ m → sum n f ≤ sum m f) → sum n f ≤ sum m f + f m
     pick (inl e) g = rw e (le-refl _)
     pick (inr l) g = omega (arith, g (omega arith))
-
--- what makes a date real: a month of the twelve, and one of its days
-pub record InCalendar (t : Date) : Type 0 where
-  pub month-from : 1 ≤ t .month
-  pub month-upto : t .month ≤ 12
-  pub day-from : 1 ≤ t .day
-  pub day-upto : t .day ≤ monthLength (t .year) (t .month)
 
 pub month-zero : (y : ℕ) → monthLength y 0 ≡ 0
 unfolding monthLength months

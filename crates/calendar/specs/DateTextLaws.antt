@@ -12,7 +12,7 @@ use Rattle.theory.specs.BoundLaws.{and-i, and-l, and-r, all-i, all-e, upto}
 use Rattle.calendar.specs.Calendar.{firstYear, lastYear, Date, real, dayOf}
 use Rattle.calendar.specs.CalendarLaws.{month-most, real-in}
 use Rattle.calendar.specs.Ascending.{ascending, insert}
-use Rattle.calendar.specs.AscendingLaws.{insert-ascending, insert-length, insert-has, insert-new, insert-old}
+use Rattle.calendar.specs.AscendingLaws.{ascending-places, insert-ascending, insert-length, insert-has, insert-new, insert-old}
 use Rattle.calendar.specs.DateText.{dateLength, Order, dayFirst, monthFirst, twoDigits, parted, written, pairAt, yearIn, readAs, digit, fitsAt, laidOut, shapedDate, withReal, daysOf, shown, means, Writing, Reading}
 
 -- digits
@@ -51,7 +51,7 @@ module _ (sep : ℕ → Bool) (text : List ℕ) (h : T (laidOut sep dateLength t
   laid-length = eqb→eq (length text) 10 (and-l (eqb (length text) dateLength) _ h)
 
   -- each place is in order
-  pub laid-at : (i : ℕ) → i < 10 → T (fitsAt sep text i)
+  pub laid-at : (i : ℕ) → i < dateLength → T (fitsAt sep text i)
   unfolding laidOut
   laid-at = all-e 10 (fitsAt sep text) (and-r (eqb (length text) dateLength) _ h)
 
@@ -96,7 +96,7 @@ module _ (sep : ℕ → Bool) (s a b y : ℕ) (hs : T (sep s)) (ha : a < 100) (h
   unfolding pairAt parted twoDigits
   parted-second = omega arith
 
-  parted-fits : (i : ℕ) → i < 10 → T (fitsAt sep (parted s a b y) i)
+  parted-fits : (i : ℕ) → i < dateLength → T (fitsAt sep (parted s a b y) i)
   unfolding fitsAt parted twoDigits
   parted-fits =
       up 9 (low (y % 100))
@@ -294,6 +294,10 @@ means-ascending sep text = go (shapedDate sep text)
     go : (b : Bool) → T (ascending (cond b (daysOf (shown text)) []))
     go true = days-ascending (shown text)
     go false = tt
+
+-- each day is later than the one before it
+pub means-rises : (sep : ℕ → Bool) (text : List ℕ) (i j : ℕ) → i < j → j < length (means sep text) → getD (means sep text) i 0 < getD (means sep text) j 0
+means-rises sep text = ascending-places (means sep text) (means-ascending sep text)
 
 pub means-most : (sep : ℕ → Bool) (text : List ℕ) → length (means sep text) ≤ 2
 unfolding means shown

@@ -22,7 +22,7 @@ pub(crate) fn nothing() -> Found
     }
 }
 
-// Each day found is compared with what is carried, and the later of the two carried on.
+// The days with `n` among them, once: at each place the earlier of two stays and the later is carried on.
 fn with_day(found: Found, n: u16) -> Found
     requires { ⌜ Room found ⌝ }
     ensures { λ r. ⌜ Holds (insert n (held found)) r ⌝ }

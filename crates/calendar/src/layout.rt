@@ -2,11 +2,12 @@
 ghost use mathlib.Core.Path.{_≡_};
 ghost use Prim.Native.Nat.{_+_, _-_, _≤_, _<_};
 ghost use lib.ListN.{length};
-ghost use Rattle.calendar.specs.DateText.{separator, pairAt, yearIn, digit, fitsAt, laidOut, shapedDate};
+ghost use Rattle.calendar.specs.DateText.{dateLength, separator, pairAt, yearIn, digit, fitsAt, laidOut, shapedDate};
 use crate::DATE_LENGTH;
 use crate::gregorian::FIRST_YEAR;
 use crate::gregorian::LAST_YEAR;
 
+// The paper's separators.
 fn separates(b: u8) -> bool
     ensures { λ r. ⌜ r ≡ separator b ⌝ }
 {
@@ -62,9 +63,9 @@ pub(crate) fn pair_at(text: &[u8], i: usize) -> u32
     value(text[i]) * 10 + value(text[i + 1])
 }
 
-// The year of a text of ten bytes.
+// The year of a text.
 pub(crate) fn year_in(text: &[u8]) -> u32
-    requires { ⌜ 10 ≤ length (now text) ⌝ }
+    requires { ⌜ dateLength ≤ length (now text) ⌝ }
     ensures { λ r. ⌜ r ≡ yearIn (now (text .entry)) ⌝ }
 {
     pair_at(text, 6) * 100 + pair_at(text, 8)

@@ -29,6 +29,7 @@ pub struct DateRead {
     pub days: [u16; DATES],
 }
 
+// A refusal has no days.
 fn refused(r: Refusal) -> DateRead
     ensures { λ a. ⌜ Refuses r a ⌝ }
 {
@@ -38,7 +39,7 @@ fn refused(r: Refusal) -> DateRead
     }
 }
 
-// The days found, if there is one.
+// The days found, or the refusal where there is none.
 fn answered(found: Found) -> DateRead
     requires { ⌜ Holds (held found) found ⌝ }
     ensures { λ r. ⌜ Answers (held found) r ⌝ }

@@ -1,27 +1,22 @@
 -- Ones counted row by row are the readings kept, since a diagonal row has at most its own bit.
 use mathlib.Core.Path.{_≡_, refl, sym, ap, subst, _∙_}
-use mathlib.Core.Logic.{_⊎_, inl, inr}
-use mathlib.Core.Bool.{Bool, true, false, cond, not}
-use mathlib.Core.List.{List, [], _∷_}
-use Prim.Native.Nat.{ℕ, suc, _+_, _*_, _≤_, _<_, zero-le}
-use native.Mathlib.Nat.{le-antisymm, le-refl}
+use mathlib.Core.Bool.{Bool, true, false}
+use mathlib.Core.List.{List}
+use Prim.Native.Nat.{ℕ, _+_, _≤_, _<_, zero-le}
+use native.Mathlib.Nat.{le-antisymm}
 use native.Mathlib.Numerals.{add-one}
 use native.Mathlib.Omega.{arith}
-use lib.Dec.{T, ltb}
+use lib.Dec.{T}
 use lib.ListN.{length, getD}
-use borrow.Author.Tests.{lt-ltb, le-ltb}
 use Rattle.theory.specs.Limits.{readingsMost}
 use Rattle.theory.specs.Bound.{sum, val, count}
-use Rattle.theory.specs.BoundLaws.{known, sum-same, sum-last, sum-most, val-no, count-same, count-most, count-one, count-none, count-some, not-e}
-use Rattle.theory.specs.Relation.{Rel, WellFormed}
+use Rattle.theory.specs.BoundLaws.{sum-same, sum-last, sum-most, count-same, count-most, count-one, count-none, count-some}
 use Rattle.theory.specs.Reading.{keptCount}
-use Rattle.refusal.specs.Said.{Said, says}
 use Rattle.words.specs.Word.{bit}
-use Rattle.table.specs.Layout.{rel, sizeOf}
+use Rattle.table.specs.Layout.{rel}
 use Rattle.table.specs.LayoutLaws.{cell-bit}
 use Rattle.table.specs.Post.{CellWords}
 use Rattle.table.specs.Shape.{GoodTable}
-
 
 -- the ones of the first a rows are counted
 pub record Counted (cell : List ℕ) (a k : ℕ) : Type 0 where

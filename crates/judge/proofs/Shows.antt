@@ -1,5 +1,5 @@
 -- What is said of a cell to show, where each check ends, and the words that go with it.
-use mathlib.Core.Path.{_≡_, refl, sym, ap, subst, _∙_}
+use mathlib.Core.Path.{_≡_, refl, sym, ap, _∙_}
 use mathlib.Core.Bool.{Bool, true, false, cond}
 use mathlib.Core.List.{List, [], _∷_}
 use Prim.Native.Nat.{ℕ, _≤_, _<_}
@@ -10,18 +10,18 @@ use borrow.Author.Tests.{eq-eqb, ne-eqb}
 use Rattle.theory.specs.Bound.{val}
 use Rattle.refusal.specs.Said.{Said, says, refused}
 use Rattle.refusal.specs.declared.Refusal.{Refusal}
-use Rattle.table.specs.Layout.{Sized, tableLength, cellStart, cellOf}
+use Rattle.table.specs.Layout.{tableLength, cellStart, cellOf}
 use Rattle.table.specs.LayoutLaws.{Fit}
 use Rattle.table.specs.Post.{CellWords}
 use Rattle.table.specs.CheckLaws.{answered}
 use Rattle.table.specs.AnswerLaws.{no-result}
-use Rattle.table.specs.Shape.{afterSizes, afterLength, GoodSizes}
+use Rattle.table.specs.Shape.{afterSizes, GoodSizes}
 use Rattle.table.specs.ShapeLaws.{check-sizes}
 use Rattle.table.proofs.Says.{length-wrong, length-right}
 use Rattle.judge.specs.declared.showing.Shown.{Shown}
 use Rattle.judge.specs.declared.showing.Shown.the-variants.{Settled, Opening, Refused}
 use Rattle.judge.specs.Bits.{noBit}
-use Rattle.judge.specs.Asked.{afterField, afterShow, fromOpening, showSays, shownWords, GoodShow}
+use Rattle.judge.specs.Asked.{afterShow, fromOpening, showSays, shownWords, GoodShow}
 use Rattle.judge.specs.AskedLaws.{field-no, field-yes, check-show}
 use Rattle.judge.specs.Answers.{saidShown}
 use Rattle.judge.proofs.Zeros.{no-bit-empty}
@@ -86,9 +86,6 @@ module _ (sizes opening settled : List ℕ) (i j : ℕ) (x : Shown) (e : saidSho
   pub told-none : (q : Refusal) → x ≡ Refused q → [] ≡ shownWords sizes opening settled i j
   unfolding shownWords
   told-none q h = sym (ap (λ (k : Bool). cond k (cellOf (length sizes) (cond (fromOpening (length sizes) settled) opening settled) i j) []) (ne-eqb (showSays sizes opening settled i j .state) 0 (λ z. no-result q {v = refused q .values} (ap (λ (k : ℕ). says k (refused q .values)) (ap (λ (s : Said). s .state) (sym (ap saidShown h) ∙ e) ∙ z)))))
-
-pub show-sized : {sizes opening settled : List ℕ} {i j : ℕ} → GoodShow sizes opening settled i j → Sized (length sizes) opening × Sized (length sizes) settled
-show-sized g = (record { few = g .good .few; long = g .long }, record { few = g .good .few; long = g .also })
 
 -- the settled table at another lifetime is the same table
 pub shown-near : (sizes opening : List ℕ) (i j : ℕ) {near far : RefT (List ℕ)} → near ≡ far → shownWords sizes opening (now near) i j ≡ shownWords sizes opening (now far) i j

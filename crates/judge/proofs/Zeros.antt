@@ -1,14 +1,12 @@
 -- A search for a word that is not 0, and what its end says of the relation.
 use mathlib.Core.Path.{_≡_, sym, ap, subst, _∙_}
-use mathlib.Core.Bool.{Bool, true, false, not}
+use mathlib.Core.Bool.{true, false, not}
 use mathlib.Core.List.{List}
-use Prim.Native.Nat.{ℕ, _+_, _≤_, _<_, zero-le}
+use Prim.Native.Nat.{ℕ, _+_, _≤_, _<_}
 use native.Mathlib.Nat.{not-suc-le-zero, lt-of-lt-of-le}
-use native.Mathlib.Omega.{arith}
 use borrow.Author.Count.{below-more}
 use lib.Dec.{T, eqb, eqb→eq, eqb-refl}
 use lib.ListN.{length, getD}
-use Rattle.theory.specs.Limits.{readingsMost}
 use Rattle.theory.specs.Bound.{all}
 use Rattle.theory.specs.BoundLaws.{T-ext, all-i, all-e, not-e}
 use Rattle.theory.specs.Reading.{holds, empty}
@@ -48,6 +46,7 @@ no-bit-empty n t long fit = T-ext (noBit t) (empty n (rel n t)) (λ x. empty-i n
         let l = rel-narrow n t i j a b s in
         let z = eqb→eq (getD t (rowNumber n i j a) 0) 0 (all-e (length t) (λ p. eqb (getD t p 0) 0) x (rowNumber n i j a) (rw long (number-in n i j a hi hj (l .0)))) in
         zero-no b (subst (λ (w : ℕ). T (bit w b)) z (subst T (rel-bit n t i j a b (l .0) (l .1)) s))
+
     zero : T (empty n (rel n t)) → (p : ℕ) → p < tableLength n → getD t p 0 ≡ 0
     zero x p l = zero-of 32 (getD t p 0) (fit p) (λ b hb s.
         let r = row-in n p l in

@@ -1,9 +1,8 @@
 -- The checks of a field's number and of a cell to show.
-use mathlib.Core.Path.{_≡_, refl}
-use mathlib.Core.Bool.{cond}
+use mathlib.Core.Path.{_≡_}
 use mathlib.Core.List.{List, []}
 use Prim.Native.Nat.{ℕ, _≤_, _<_}
-use lib.Dec.{T, ltb, ltb→lt, lt→ltb, lit≤}
+use lib.Dec.{ltb, ltb→lt, lt→ltb, lit≤}
 use lib.ListN.{length}
 use borrow.Author.Tests.{lt-ltb, le-ltb}
 use Rattle.refusal.specs.Said.{Said, says}

@@ -2,3 +2,5 @@ pub mod Answers
 pub mod Asked
 pub mod Bits
 pub mod AskedLaws
+pub mod AnswerLaws
+pub mod Theorems

@@ -1,7 +1,7 @@
 // The first broken row.
 use refusal::Refusal;
-use table::{READINGS_MOST, Shaped};
-
+use table::READINGS_MOST;
+use table::Shaped;
 ghost use mathlib.Core.Path.{_≡_};
 ghost use mathlib.Core.List.{[]};
 ghost use lib.ListN.{length};

@@ -1,7 +1,7 @@
 // How many readings a field keeps.
 use refusal::Refusal;
-use table::{READINGS_MOST, Shaped};
-
+use table::READINGS_MOST;
+use table::Shaped;
 ghost use mathlib.Core.Path.{_≡_};
 ghost use lib.ListN.{length, getD};
 ghost use Rattle.theory.specs.Limits.{readingsMost};

@@ -1,11 +1,7 @@
 // A cell shown, from the settled table or, where that holds no bit, from the opening one.
 use refusal::Refusal;
 use table::Shaped;
-
 ghost use mathlib.Core.Path.{_≡_};
-ghost use Prim.Native.Nat.{_≤_};
-ghost use lib.ListN.{length};
-ghost use Rattle.theory.specs.Limits.{fieldsMost};
 ghost use Rattle.judge.specs.Answers.{saidShown};
 ghost use Rattle.judge.specs.Asked.{showSays, shownWords};
 ghost use Rattle.judge.specs.Bits.{noBit};
@@ -52,7 +48,7 @@ pub fn shown_from(sizes: &[u8], opening: &[u32], settled: &[u32], i: usize, j: u
     if j >= n {
         return Shown::Refused(Refusal::NoField);
     }
-    let at = table::layout::cell_start(n, i, j);
+    let at = table::cell_start(n, i, j);
     if holds_none(settled) {
         return Shown::Opening(at);
     }

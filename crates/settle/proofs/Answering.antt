@@ -23,11 +23,11 @@ use Rattle.table.specs.LayoutLaws.{rel-words, length-words}
 use Rattle.table.specs.Shape.{GoodTable, afterShape}
 use Rattle.table.specs.ShapeLaws.{check-shape}
 use Rattle.settle.specs.declared.Settling.the-variants.{Settled, Unfinished, Refused}
-use Rattle.settle.specs.declared.Stop.{Stop}
-use Rattle.settle.specs.declared.Stop.the-variants.{Stable, Spent}
+use Rattle.settle.specs.declared.running.Stop.{Stop}
+use Rattle.settle.specs.declared.running.Stop.the-variants.{Stable, Spent}
 use Rattle.settle.specs.Round.{Lent}
-use Rattle.settle.specs.Settle.{afterLent, settleSays, reached, Settlement}
-use Rattle.settle.specs.SettleLaws.{GoodLent, says-settled, says-unfinished, good-says, good-table, good-scratch, refused-table, refused-scratch}
+use Rattle.settle.specs.Settle.{GoodLent, afterLent, settleSays, reached, Settlement}
+use Rattle.settle.specs.SettleLaws.{says-settled, says-unfinished, good-says, good-table, good-scratch, refused-table, refused-scratch}
 use Rattle.settle.specs.Running.{Formed, stops, Ran}
 use Rattle.settle.proofs.Emptiness.{empty-first}
 

@@ -1,56 +1,52 @@
--- A row differs from what a round leaves of it exactly when the round would change it.
-use mathlib.Core.Path.{_≡_, sym, ap, _∙_}
-use mathlib.Core.Logic.{inl, inr}
-use mathlib.Core.Bool.{not}
+-- A row would change exactly when it loses a bit.
+use mathlib.Core.Path.{_≡_, sym, subst, _∙_}
 use mathlib.Core.List.{List, []}
-use Prim.Native.Nat.{ℕ, _^_, _≤_, _<_}
-use native.Mathlib.Nat.{le-refl}
+use Prim.Native.Nat.{ℕ, _≤_, _<_}
+use native.Mathlib.Nat.{le-refl, pos-of-ne-zero}
 use native.Mathlib.Omega.{arith}
 use lib.Dec.{T, leb, le→leb}
 use borrow.Author.Tests.{lt-leb}
 use Rattle.theory.specs.Limits.{readingsMost}
 use Rattle.theory.specs.Bound.{first}
-use Rattle.theory.specs.BoundLaws.{and-i, and-r, not-e, known, T-ext, first-is}
-use Rattle.theory.specs.Relation.{Rel, round}
-use Rattle.theory.specs.RelationLaws.{round-in}
+use Rattle.theory.specs.BoundLaws.{and-i, and-r, any-i, first-is, first-holds}
+use Rattle.theory.specs.Relation.{Rel}
 use Rattle.words.specs.Word.{bit, pack}
-use Rattle.words.specs.WordLaws.{bit-pack, pack-of}
+use Rattle.words.specs.WordLaws.{bit-pack, pack-lt, zero-no}
+use Rattle.words.specs.EndLaws.{first-one}
 use Rattle.refusal.specs.Said.{says}
 use Rattle.table.specs.declared.layout.Row.{Row}
-use Rattle.table.specs.Layout.{row, rel, tableRows, firstRow}
-use Rattle.table.specs.LayoutLaws.{rel-bit, rel-narrow}
+use Rattle.table.specs.Layout.{rel, tableRows, firstRow}
+use Rattle.table.specs.LayoutLaws.{rel-narrow}
 use Rattle.table.specs.Post.{RowAt}
 use Rattle.table.specs.Shape.{rowPlace}
 use Rattle.table.proofs.Says.{row-said, row-passed}
-use Rattle.settle.specs.Round.{changedRow, Turned}
-use Rattle.settle.specs.RoundLaws.{lost-in, lost-out, not-lost}
+use Rattle.settle.specs.Round.{lost, changedRow, Turned}
 use Rattle.settle.specs.Changes.{changedAbove, afterSettled}
-use Rattle.settle.specs.ChangesLaws.{changed-i, changed-e, above-first}
+use Rattle.settle.specs.ChangesLaws.{changed-e, above-first}
 
 -- no row below the diagonal is looked at
 pub changed-below : (n : ℕ) (R : Rel) (i j : ℕ) → j < i → readingsMost ≡ first readingsMost (changedAbove n R i j)
 unfolding changedAbove
 changed-below n R i j h = sym (first-is 32 (changedAbove n R i j) 32 (le-refl 32) (λ l. absurd (omega arith)) (λ a l t. rw (lt-leb i j h) at t))
 
-module _ (n : ℕ) (t : List ℕ) (i j a : ℕ) (ha : a < readingsMost) (v w : ℕ) (small : v < 2 ^ 32) (ev : v ≡ row n t i j a) (ew : w ≡ pack readingsMost (round n (rel n t) i j a)) (le : i ≤ j) where
-  pub row-changed : (v ≡ w → ⊥) → T (changedAbove n (rel n t) i j a)
-  unfolding changedAbove
-  row-changed d = elim (known (changedRow n (rel n t) i j a)) [
-    | inl s ↦ and-i (leb i j) _ (le→leb i j le) s
-    | inr s ↦ absurd (d (pack-of 32 v (round n (rel n t) i j a) small (λ b hb. ap (λ (x : ℕ). bit x b) ev ∙ (sym (rel-bit n t i j a b ha hb) ∙ same b hb s)) ∙ sym ew))
-  ]
-    where
-      same : (b : ℕ) → b < 32 → T (not (changedRow n (rel n t) i j a)) → rel n t i j a b ≡ round n (rel n t) i j a b
-      same b hb s = T-ext (rel n t i j a b) (round n (rel n t) i j a b)
-          (λ u. not-lost n (rel n t) i j a b u (λ z. not-e (changedRow n (rel n t) i j a) s (changed-i n (rel n t) i j a b hb z)))
-          (round-in n (rel n t) i j a b)
+-- a row that loses a bit would change
+pub row-changed : (n : ℕ) (R : Rel) (i j a w : ℕ) → i ≤ j → w ≡ pack 32 (lost n R i j a) → (w ≡ 0 → ⊥) → T (changedAbove n R i j a)
+unfolding changedAbove changedRow
+row-changed n R i j a w le e d =
+    and-i (leb i j) _ (le→leb i j le)
+    (any-i 32 (lost n R i j a) b hb (rw (bit-pack 32 (lost n R i j a) b hb) at (subst (λ (x : ℕ). T (bit x b)) e (first-holds 32 (bit w) hb))))
+  where
+    b : ℕ
+    b = first 32 (bit w)
 
-  pub row-same : v ≡ w → T (changedAbove n (rel n t) i j a) → ⊥
-  unfolding changedAbove
-  row-same e s =
-      let (b, hb, z) = changed-e n (rel n t) i j a (and-r (leb i j) (changedRow n (rel n t) i j a) s) in
-      let same : rel n t i j a b ≡ round n (rel n t) i j a b = rel-bit n t i j a b ha hb ∙ (ap (λ (x : ℕ). bit x b) (sym ev ∙ (e ∙ ew)) ∙ bit-pack 32 (round n (rel n t) i j a) b hb) in
-      lost-out n (rel n t) i j a b z (rw same at (lost-in n (rel n t) i j a b z))
+    hb : b < 32
+    hb = first-one 32 w (pos-of-ne-zero d) (rw e (pack-lt 32 (lost n R i j a)))
+
+pub row-same : (n : ℕ) (R : Rel) (i j a w : ℕ) → w ≡ pack 32 (lost n R i j a) → w ≡ 0 → T (changedAbove n R i j a) → ⊥
+unfolding changedAbove
+row-same n R i j a w e z s =
+    let (b, hb, u) = changed-e n R i j a (and-r (leb i j) (changedRow n R i j a) s) in
+    zero-no b (rw (sym e ∙ z) at (rw (sym (bit-pack 32 (lost n R i j a) b hb)) at u))
 
 -- what the search comes to
 

@@ -6,6 +6,7 @@ use native.Mathlib.Omega.{arith}
 use lib.ListN.{length, getD, set, length-set}
 use lib.Seq.{getD-set-same, getD-set-other, ext-getD}
 use borrow.Author.Count.{below-none, below-more}
+use Rattle.settle.specs.Running.{Swapped}
 
 -- the words below p of to are those of from
 pub record Copied (from to : List ℕ) (p : ℕ) : Type 0 where
@@ -69,8 +70,8 @@ module _ (x₀ y₀ : List ℕ) where
     high-y = λ q l. getD-set-other y p q (getD x p 0) 0 (omega arith) ∙ g .high-y q (omega arith);
   }
 
-  pub exchanged-all : (x y : List ℕ) (p : ℕ) → Exchanged x₀ y₀ x y p → length x ≤ p → (x ≡ y₀) × (y ≡ x₀)
-  exchanged-all x y p g h = (
-    ext-getD 0 x y₀ (g .long-x ∙ sym (g .long)) (λ q l. g .low-x q (omega arith)),
-    ext-getD 0 y x₀ (g .long-y ∙ g .long) (λ q l. g .low-y q (omega (arith, g .long-x, g .long-y, g .long))),
-  )
+  pub exchanged-all : (x y : List ℕ) (p : ℕ) → Exchanged x₀ y₀ x y p → length x ≤ p → Swapped x₀ y₀ x y
+  exchanged-all x y p g h = record {
+    here = ext-getD 0 x y₀ (g .long-x ∙ sym (g .long)) (λ q l. g .low-x q (omega arith));
+    there = ext-getD 0 y x₀ (g .long-y ∙ g .long) (λ q l. g .low-y q (omega (arith, g .long-x, g .long-y, g .long)));
+  }

@@ -16,8 +16,8 @@ use Rattle.theory.specs.SettlingLaws.{steps-settled, steps-least}
 use Rattle.theory.specs.AgreeLaws.{agree-sym, agree-round, agree-wf}
 use Rattle.table.specs.Layout.{tableLength, rel, words}
 use Rattle.table.specs.LayoutLaws.{Narrow, Fit, rel-words, length-words, words-same, words-rel}
-use Rattle.settle.specs.declared.Stop.{Stop}
-use Rattle.settle.specs.declared.Stop.the-variants.{Stable, Spent}
+use Rattle.settle.specs.declared.running.Stop.{Stop}
+use Rattle.settle.specs.declared.running.Stop.the-variants.{Stable, Spent}
 use Rattle.settle.specs.Round.{movedFields, Quiet, Lent, RoundDone}
 use Rattle.settle.specs.RoundLaws.{moved-none, moved-some, quiet-round, quiet-all, agree-quiet, agree-moved}
 use Rattle.settle.specs.Settle.{reached}

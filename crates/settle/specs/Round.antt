@@ -25,9 +25,9 @@ changedRow n R i j a = any readingsMost (lost n R i j a)
 unfoldable pub moves : ℕ → Rel → ℕ → Bool
 moves n R f = any n (λ j. holds (lost n R) f j)
 
--- the fields of which a round would change a cell, as bits
+-- the fields of which a round would change a cell, as bits of a word
 abbrev pub movedFields : ℕ → Rel → ℕ
-movedFields n R = pack readingsMost (λ f. ltb f n && moves n R f)
+movedFields n R = pack 32 (λ f. ltb f n && moves n R f)
 
 -- a round would change no cell of two fields that both are not among the bits of moved
 abbrev pub Quiet : ℕ → Rel → ℕ → Type 0

@@ -155,12 +155,12 @@ done-moved {n} {R} {A} {m} h v = pack-of 32 m (λ f. ltb f n && moves n R f) h (
     let e = moves-e n R f (and-r (ltb f n) (moves n R f) t) in
     v .marked f e.0 e.1 e.2 l e.3 (tt, e .4)))
 
-pub moved-i : (n : ℕ) (R : Rel) → n ≤ readingsMost → (i j a b : ℕ) → i < n → j < n → a < readingsMost → b < readingsMost → T (lost n R i j a b) → T (bit (movedFields n R) i)
+pub moved-i : (n : ℕ) (R : Rel) → n ≤ 32 → (i j a b : ℕ) → i < n → j < n → a < readingsMost → b < readingsMost → T (lost n R i j a b) → T (bit (movedFields n R) i)
 moved-i n R hn i j a b hi hj ha hb s = rw (bit-pack 32 (λ f. ltb f n && moves n R f) i (omega arith)) (and-i (ltb i n) _ (lt→ltb i n hi) (moves-i n R i j a b hj ha hb s))
 
 -- no field has lost a pair exactly when the round changed nothing
 
-pub moved-none : (n : ℕ) (R : Rel) → n ≤ readingsMost → Narrow n R → movedFields n R ≡ 0 → Stable n R
+pub moved-none : (n : ℕ) (R : Rel) → n ≤ 32 → Narrow n R → movedFields n R ≡ 0 → Stable n R
 moved-none n R hn w e i j a b hi hj = T-ext (round n R i j a b) (R i j a b) (round-in n R i j a b) (λ t. not-lost n R i j a b t (λ s.
     let l = w i j a b hi hj t in
     zero-no i (rw e at (moved-i n R hn i j a b hi hj l.0 l.1 s))))
@@ -175,7 +175,7 @@ moved-some n R s = zero-of 32 (movedFields n R) (pack-lt 32 (λ f. ltb f n && mo
 -- fields at rest
 
 -- where a round has changed no cell of two fields, the next one changes nothing between them
-pub quiet-round : (n : ℕ) (R : Rel) → n ≤ readingsMost → Narrow n R → Turned n R → Quiet n (round n R) (movedFields n R)
+pub quiet-round : (n : ℕ) (R : Rel) → n ≤ 32 → Narrow n R → Turned n R → Quiet n (round n R) (movedFields n R)
 quiet-round n R hn w turn i j a b hi hj ri rj t =
     let s = lost-in n (round n R) i j a b t in
     lost-out n (round n R) i j a b t (round-i n (round n R) i j a b s (λ k hk.
@@ -186,7 +186,7 @@ quiet-round n R hn w turn i j a b hi hj ri rj t =
     rest i k a c hi hk r u = not-lost n R i k a c u (λ l. let s = w i k a c hi hk u in not-e (bit (movedFields n R) i) r (moved-i n R hn i k a c hi hk s.0 s.1 l))
 
 -- with every field among the bits nothing is said
-pub quiet-all : (n : ℕ) (R : Rel) → n ≤ readingsMost → Quiet n R (2 ^ 32 - 1)
+pub quiet-all : (n : ℕ) (R : Rel) → n ≤ 32 → Quiet n R (2 ^ 32 - 1)
 quiet-all n R hn i j a b hi hj ri = absurd (not-e (bit (2 ^ 32 - 1) i) ri (rw (bit-ones 32 i) (lt→ltb i 32 (omega arith))))
 
 -- relations that allow the same lose the same

@@ -7,11 +7,16 @@ use lib.Dec.{leb}
 use Rattle.theory.specs.Relation.{Rel, WellFormed, round}
 use Rattle.theory.specs.Settling.{steps}
 use Rattle.table.specs.Layout.{rel, words}
-use Rattle.settle.specs.declared.Stop.{Stop}
-use Rattle.settle.specs.declared.Stop.the-variants.{Stable, Spent}
+use Rattle.settle.specs.declared.running.Stop.{Stop}
+use Rattle.settle.specs.declared.running.Stop.the-variants.{Stable, Spent}
 use Rattle.settle.specs.Settle.{reached}
 
--- R is well formed, whatever the sizes
+-- x and y have changed places
+pub record Swapped (x y x′ y′ : List ℕ) : Type 0 where
+  pub here : x′ ≡ y
+  pub there : y′ ≡ x
+
+-- R is well formed, for some sizes
 abbrev pub Formed : ℕ → Rel → Type 0
 Formed n R = (size : ℕ → ℕ) × WellFormed n size R
 

@@ -19,16 +19,11 @@ use Rattle.table.specs.Layout.{tableLength, rel, words}
 use Rattle.table.specs.Checks.{Check}
 use Rattle.table.specs.CheckLaws.{both, check-of, check-test}
 use Rattle.table.specs.AnswerLaws.{no-result}
-use Rattle.table.specs.Shape.{GoodTable, afterShape}
+use Rattle.table.specs.Shape.{afterShape}
 use Rattle.table.specs.ShapeLaws.{check-shape}
 use Rattle.settle.specs.declared.Settling.{Settling}
 use Rattle.settle.specs.declared.Settling.the-variants.{Settled, Unfinished, Refused}
-use Rattle.settle.specs.Settle.{saidSettling, afterLent, roundsSay, settleSays, reached, tableAfter, scratchAfter, Settlement}
-
--- a good table with scratch of its length
-pub record GoodLent (sizes t s : List ℕ) : Type 0 where
-  pub good : GoodTable sizes t
-  pub other : length s ≡ tableLength (length sizes)
+use Rattle.settle.specs.Settle.{GoodLent, saidSettling, afterLent, roundsSay, settleSays, reached, tableAfter, scratchAfter, Settlement}
 
 pub check-lent : (sizes t s : List ℕ) → Check (GoodLent sizes t s) (afterLent sizes t s)
 unfolding afterLent

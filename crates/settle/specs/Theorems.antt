@@ -13,7 +13,7 @@ use Rattle.theory.specs.BoundLaws.{T-ext, lt-or-ge}
 use Rattle.theory.specs.Relation.{Rel, WellFormed, Agree, Settled, round, rounds, Largest, Sound}
 use Rattle.theory.specs.RelationLaws.{pair-small, rounds-wf, rounds-sound, sound-largest, largest-unique, settled-unchanged}
 use Rattle.theory.specs.Reading.{Full, holds, empty, pairs}
-use Rattle.theory.specs.ReadingLaws.{sound-full, filled-i, settled-filled}
+use Rattle.theory.specs.ReadingLaws.{sound-full, filled-i, settled-filled, pairs-most, pairsMost-limit}
 use Rattle.theory.specs.Choice.{First}
 use Rattle.theory.specs.Settling.{steps, Settles, Unfinished}
 use Rattle.theory.specs.SettlingLaws.{steps-le, steps-settled, settles-steps, unfinished-steps}
@@ -21,20 +21,20 @@ use Rattle.theory.specs.Theorems.{steps-are-least, steps-at-most-roundsMost, em
 use Rattle.theory.specs.AgreeLaws.{agree-sym, agree-wf, agree-settled, agree-round, agree-empty}
 use Rattle.refusal.specs.Said.{Said, says}
 use Rattle.refusal.specs.declared.Refusal.{Refusal}
-use Rattle.table.specs.Layout.{rel, words, sizeOf}
-use Rattle.table.specs.LayoutLaws.{Fit, rel-words, length-words, words-same, words-rel, words-fit}
+use Rattle.table.specs.Layout.{words, sizeOf}
+use Rattle.table.specs.LayoutLaws.{Narrow, Fit, rel-words, length-words, words-same, words-rel, words-fit}
 use Rattle.table.specs.Checks.{Refuses}
 use Rattle.table.specs.AnswerLaws.{no-result}
 use Rattle.table.specs.Shape.{GoodTable, afterShape}
 use Rattle.table.specs.ShapeLaws.{check-shape}
 use Rattle.settle.specs.declared.Settling.{Settling}
 use Rattle.settle.specs.declared.Settling.the-variants as answer
-use Rattle.settle.specs.Settle.{saidSettling, afterLent, roundsSay, settleSays, reached, Settlement}
-use Rattle.settle.specs.SettleLaws.{GoodLent, check-lent, says-settled, says-unfinished, good-says, good-table, good-scratch, refused-table, refused-scratch, val-same}
-
--- what a table stands for, by its sizes
-abbrev pub relOf : List ℕ → List ℕ → Rel
-relOf sizes t = rel (length sizes) t
+use Rattle.settle.specs.declared.changes.Changed.{Changed}
+use Rattle.settle.specs.declared.changes.Changed.the-variants.{Nowhere}
+use Rattle.settle.specs.Changes.{afterSettled, saidChanged}
+use Rattle.settle.specs.ChangesLaws.{check-settled, told-settled, changed-determined}
+use Rattle.settle.specs.Settle.{relOf, GoodLent, saidSettling, afterLent, roundsSay, settleSays, reached, Settlement}
+use Rattle.settle.specs.SettleLaws.{check-lent, says-settled, says-unfinished, good-says, good-table, good-scratch, refused-table, refused-scratch, val-same}
 
 -- 1. Refusals: "a number is given exactly when its check is the first to fail. Refusals write nothing."
 
@@ -49,7 +49,7 @@ answered-is-good {sizes} {t} {s} {budget} {x} p z = go (check-lent sizes t s .de
     go : GoodLent sizes t s ⊎ Refuses (afterLent sizes t s) → GoodLent sizes t s
     go (inl g) = g
     go (inr r) =
-        let e : saidSettling x .state ≡ r .0 .state = ap (λ (a : Said). a .state) (p .says ∙ r .2 (roundsSay (length sizes) (rel (length sizes) t) budget)) in
+        let e : saidSettling x .state ≡ r .0 .state = ap (λ (a : Said). a .state) (p .says ∙ r .2 (roundsSay (length sizes) (relOf sizes t) budget)) in
         absurd (omega (arith, r .1))
 
 -- 2. Any answer but a refusal leaves a good table, which any other entry point takes, and scratch "one further round of what the
@@ -201,11 +201,8 @@ module _ {sizes t s : List ℕ} {budget r : ℕ} {e : Bool} {t′ s′ : List �
       empty-means-no-full-reading (result-is-good p refl .formed) (settled-good .good .good .some) u y (result-keeps-full-readings p refl y .0 f)
 
   -- "The rounds r never exceed the number of allowed pairs on or above the diagonal at the start, at most 123,392."
-  pub settled-rounds-at-most-pairs : (r ≤ pairs (length sizes) (relOf sizes t)) × (r ≤ roundsMost)
-  settled-rounds-at-most-pairs = (
-    rw (settled-values .1) (steps-le settled-formed),
-    rw (settled-values .1) (steps-at-most-roundsMost settled-formed (settled-good .good .good .few)),
-  )
+  pub settled-rounds-at-most-pairs : (r ≤ pairs (length sizes) (relOf sizes t)) × (pairs (length sizes) (relOf sizes t) ≤ roundsMost)
+  settled-rounds-at-most-pairs = (rw (settled-values .1) (steps-le settled-formed), omega (arith, pairs-most settled-formed, pairsMost-limit (length sizes) (settled-good .good .good .few)))
 
   -- "A larger budget never alters a settled answer", nor the table, nor scratch
   pub larger-budget-same : (more : ℕ) → budget ≤ more → Settlement sizes t s more (answer.Settled r e) t′ s′
@@ -221,9 +218,10 @@ module _ {sizes t s : List ℕ} {budget r : ℕ} {e : Bool} {t′ s′ : List �
 
   -- settled once more, it needs no round, and stays
   pub settled-again : (u : List ℕ) (more : ℕ) → length u ≡ length s → Settlement sizes t′ u more (answer.Settled 0 e) t′ t′
-  settled-again u more h = rw settled-flag-is-empty (
-      settled-needs-no-round (record { good = result-is-good p refl; other = h ∙ settled-good .other }) (rw (p .table ∙ good-table settled-good budget) (words-fit (length sizes) (reached (length sizes) (relOf sizes t) budget))) (settled-table-is-largest .settled) more
-      )
+  settled-again u more h =
+      let g : GoodLent sizes t′ u = record { good = result-is-good p refl; other = h ∙ settled-good .other } in
+      let f : Fit t′ = rw (p .table ∙ good-table settled-good budget) (words-fit (length sizes) (reached (length sizes) (relOf sizes t) budget)) in
+      rw settled-flag-is-empty (settled-needs-no-round g f (settled-table-is-largest .settled) more)
 
 -- 4. Unfinished: "Otherwise the answer is unfinished and the table holds the state after exactly the budgeted rounds."
 
@@ -267,3 +265,11 @@ pub large-budget-settles : {sizes t s : List ℕ} {budget : ℕ} {x : Settling} 
 large-budget-settles {x = answer.Settled r e} g h p = (r, e, refl)
 large-budget-settles {x = answer.Unfinished} g h p = absurd (omega (arith, unfinished-budget-is-small p))
 large-budget-settles {x = answer.Refused q} g h p = absurd (good-is-not-refused g p)
+
+-- 6. The first row that a round would change: one answer, and none exactly of a settled table
+
+pub first-changed-is-one : (n : ℕ) (R : Rel) (x y : Changed) → saidChanged x ≡ afterSettled n R (says 0 []) → saidChanged y ≡ afterSettled n R (says 0 []) → x ≡ y
+first-changed-is-one n R x y p q = changed-determined x y (p ∙ sym q)
+
+pub nowhere-changed-iff-settled : (n : ℕ) (R : Rel) → Narrow n R → (x : Changed) → saidChanged x ≡ afterSettled n R (says 0 []) → (x ≡ Nowhere) ↔ Settled n R
+nowhere-changed-iff-settled n R w x p = (told-settled n R w p, λ s. changed-determined x Nowhere (p ∙ check-settled n R w .passes s (says 0 [])))

@@ -1,8 +1,7 @@
 // The first row, in table order, that a round would change.
-use crate::round::round_row;
+use crate::round::lost_bits;
 use table::READINGS_MOST;
 use table::row_at;
-use table::row_word;
 ghost use mathlib.Core.Path.{_≡_};
 ghost use mathlib.Core.List.{[]};
 ghost use Prim.Native.Nat.{_<_};
@@ -29,7 +28,7 @@ fn changed_in(table: &[u32], n: usize, i: usize, j: usize) -> usize
     }
     let mut a: usize = 0;
     while a < READINGS_MOST {
-        if row_word(table, n, i, j, a) != round_row(table, n, i, j, a) {
+        if lost_bits(table, n, i, j, a) != 0 {
             return a;
         }
         a += 1;

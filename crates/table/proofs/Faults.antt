@@ -1,22 +1,19 @@
 -- The tests of sizes, cells and words, as the code makes them.
-use mathlib.Core.Path.{_≡_, refl, sym, ap, ap₂, subst, _∙_}
+use mathlib.Core.Path.{_≡_, sym, ap, subst, _∙_}
 use mathlib.Core.Logic.{_⊎_, inl, inr}
-use mathlib.Core.Bool.{Bool, true, false, not, xor, _&&_, _||_, true≢false, false≢true}
+use mathlib.Core.Bool.{Bool, true, false, not, xor, _&&_, _||_}
 use mathlib.Core.List.{List}
-use Prim.Native.Nat.{ℕ, suc, _+_, _-_, _*_, _^_, _≤_, _<_}
-use native.Mathlib.Nat.{lt-of-lt-of-le}
-use native.Mathlib.Numerals.{add-one}
+use Prim.Native.Nat.{ℕ, _^_, _≤_, _<_}
 use native.Mathlib.Omega.{arith}
-use lib.Dec.{T, leb, eqb, ltb, eqb→eq, eqb-refl}
-use lib.Pow.{pow-mono, pow-pos}
+use lib.Dec.{T, eqb, ltb, eqb→eq, eqb-refl}
+use lib.Pow.{pow-pos}
 use lib.ListN.{getD}
 use borrow.Author.Tests.{le-leb, lt-leb, lt-ltb, le-ltb}
 use Rattle.theory.specs.Limits.{readingsMost}
-use Rattle.theory.specs.Bound.{any, val}
-use Rattle.theory.specs.BoundLaws.{T-ext, any-same, any-i, any-e, known, not-e, val-most}
+use Rattle.theory.specs.Bound.{any}
+use Rattle.theory.specs.BoundLaws.{T-ext, any-same, any-i, any-e, known, not-e}
 use Rattle.words.specs.Word.{bit, pack}
-use Rattle.words.specs.WordLaws.{bit-pack, pack-lt, pack-same, pack-of, same-bits, bit-none}
-use Rattle.words.specs.MachineLaws.{bit-test}
+use Rattle.words.specs.WordLaws.{bit-pack, pack-of, bit-none}
 use Rattle.table.specs.Layout.{sizeOf}
 use Rattle.table.specs.Cells.{strayIn, diagonalIn, columnOf, mirrorIn}
 use Rattle.table.specs.Shape.{badSize}

@@ -1,16 +1,16 @@
 -- A bit cleared in the part of a table that is one cell is that bit cleared in the table.
-use mathlib.Core.Path.{_≡_, refl, sym, ap, ap₂, subst, _∙_}
+use mathlib.Core.Path.{_≡_, sym, ap, subst, _∙_}
 use mathlib.Core.Bool.{not, _&&_}
 use mathlib.Core.List.{List}
-use Prim.Native.Nat.{ℕ, _+_, _-_, _≤_, _<_}
+use Prim.Native.Nat.{ℕ, _+_, _-_, _<_}
 use native.Mathlib.Omega.{arith}
 use lib.Dec.{eqb}
-use lib.ListN.{length, getD, set, take, drop, length-drop}
+use lib.ListN.{length, getD, set, drop, length-drop}
 use lib.Seq.{length-take-le, getD-take, getD-drop}
 use borrow.Rule.Slice.PartMut.{midOf, putMid, set-mid-at}
 use Rattle.theory.specs.Limits.{readingsMost}
 use Rattle.words.specs.Word.{bit, pack}
-use Rattle.table.specs.Layout.{tableLength, cellStart, rowNumber, rel, Sized}
+use Rattle.table.specs.Layout.{tableLength, rowNumber, rel, Sized}
 use Rattle.table.specs.Post.{Placed}
 use Rattle.theory.specs.Relation.{Agree}
 use Rattle.theory.specs.Strike.{strike}
@@ -31,8 +31,10 @@ cleared-part n t i j {at} a b {s} long p ha e =
   where
     k : ℕ
     k = at + readingsMost - at
+
     same : getD (midOf at k t) a 0 ≡ getD t (at + a) 0
     same = getD-take k (drop at t) a 0 (omega arith) ∙ getD-drop at t a 0
+
     short : a < length (midOf at k t)
     short = rw (length-take-le k (drop at t) (omega (arith, length-drop at t, p .within, long))) (omega arith)
 
@@ -50,6 +52,7 @@ struck-parts n t i j {at} {mirror} a b {s} {u} z h p q e f = record {
   where
     first : putMid at (at + readingsMost - at) t s ≡ cleared t (rowNumber n i j a) b
     first = cleared-part n t i j a b (z .long) p (h .2) e
+
     words : putMid mirror (mirror + readingsMost - mirror) (putMid at (at + readingsMost - at) t s) u ≡ struckWords n t i j a b
     words =
         cleared-part n (putMid at (at + readingsMost - at) t s) j i b a (ap length first ∙ length-cleared t (rowNumber n i j a) b ∙ z .long) q (h .3) f

@@ -1,16 +1,15 @@
 -- From the tests on a cell's words to the tests on the rows of the relation that they stand for.
-use mathlib.Core.Path.{_≡_, refl, sym, ap, subst, _∙_}
-use mathlib.Core.Logic.{_⊎_, inl, inr}
+use mathlib.Core.Path.{_≡_, refl, sym, ap, _∙_}
 use mathlib.Core.Bool.{Bool, not, xor, _&&_}
 use mathlib.Core.List.{List}
-use Prim.Native.Nat.{ℕ, _+_, _*_, _%_, _≤_, _<_}
+use Prim.Native.Nat.{ℕ, _+_, _%_, _≤_, _<_}
 use native.Mathlib.Nat.{le-refl}
 use native.Mathlib.Omega.{arith}
-use lib.Dec.{T, eqb, ltb}
+use lib.Dec.{eqb, ltb}
 use lib.ListN.{length, getD}
 use borrow.Author.Tests.{ne-eqb, eq-eqb, lt-ltb, le-ltb}
 use Rattle.theory.specs.Limits.{readingsMost}
-use Rattle.theory.specs.Bound.{any, first}
+use Rattle.theory.specs.Bound.{first}
 use Rattle.theory.specs.BoundLaws.{any-same, first-same, first-is}
 use Rattle.words.specs.Word.{bit, pack}
 use Rattle.words.specs.WordLaws.{bit-pack}

@@ -1,22 +1,22 @@
 -- What the checks say where their searches end.
-use mathlib.Core.Path.{_≡_, refl, sym, ap, subst, _∙_}
+use mathlib.Core.Path.{_≡_, sym, ap, subst, _∙_}
 use mathlib.Core.Logic.{_⊎_, inl, inr}
 use mathlib.Core.Bool.{Bool, true, false, cond, not, xor, _&&_}
 use mathlib.Core.List.{List, [], _∷_}
-use Prim.Native.Nat.{ℕ, _+_, _*_, _≤_, _<_}
+use Prim.Native.Nat.{ℕ, _≤_, _<_}
 use native.Mathlib.Nat.{le-antisymm}
 use native.Mathlib.Omega.{arith}
-use lib.Dec.{T, eqb, leb, ltb, lt→ltb, ltb→lt, eqb→eq, eqb-refl}
+use lib.Dec.{T, eqb, ltb, lt→ltb, eqb→eq, eqb-refl}
 use lib.ListN.{length}
 use borrow.Author.Tests.{le-leb, lt-leb, lt-ltb, le-ltb, eq-eqb, ne-eqb}
 use Rattle.theory.specs.Limits.{fieldsMost, readingsMost}
 use Rattle.theory.specs.Bound.{any, first}
-use Rattle.theory.specs.BoundLaws.{and-i, and-l, and-r, not-i, not-e, known, lt-or-ge, any-i, any-e, first-is, first-le, first-holds, first-least, first-none}
+use Rattle.theory.specs.BoundLaws.{and-i, and-r, not-i, not-e, known, lt-or-ge, any-i, any-e, first-is, first-le, first-holds, first-least, first-none}
 use Rattle.theory.specs.Relation.{Rel}
 use Rattle.refusal.specs.Said.{Said, says}
 use Rattle.table.specs.declared.layout.Row.{Row}
-use Rattle.table.specs.Layout.{tableLength, tableRows, tableRow, RowIn, rowNumber, at, firstRow, sizeOf}
-use Rattle.table.specs.LayoutLaws.{Narrow, row-in, number-in, row-of-number, number-of-row, number-by-field}
+use Rattle.table.specs.Layout.{tableLength, tableRows, tableRow, RowIn, rowNumber, at, firstRow}
+use Rattle.table.specs.LayoutLaws.{row-in, number-in, row-of-number, number-of-row, number-by-field}
 use Rattle.table.specs.Checks.{atFirst}
 use Rattle.table.specs.Shape.{badSize, strayRow, diagonalRow, mirrorRow, mirrorAbove, rowPlace, atFirstRow, afterSizes, afterLength, afterRows}
 use Rattle.table.specs.ShapeLaws.{Clear, xor-same}
@@ -105,8 +105,10 @@ module _ (n : ℕ) (R : Rel) where
     where
       w : (b : ℕ) × (b < readingsMost) × T (xor (R i i a b) (R i i b a))
       w = any-e 32 (λ b. xor (R i i a b) (R i i b a)) t
+
       off : (a b : ℕ) → a < readingsMost → b < readingsMost → T (not (eqb a b)) → T (R i i a b) → ⊥
       off a b ha hb n s = clear i i a hi hi ha (and-i (eqb i i) (any 32 (λ c. R i i a c && not (eqb a c))) (eqb-refl i) (any-i 32 (λ c. R i i a c && not (eqb a c)) b hb (and-i (R i i a b) (not (eqb a b)) s n)))
+
       go : (b : ℕ) → b < readingsMost → T (xor (R i i a b) (R i i b a)) → T (eqb a b) ⊎ T (not (eqb a b)) → ⊥
       go b hb x (inl e) = xor-same (R i i a b) (R i i b a) (rw (eqb→eq a b e)) x
       go b hb x (inr e) = elim (xor-e (R i i a b) (R i i b a) x) [
@@ -120,24 +122,31 @@ module _ (n : ℕ) (R : Rel) where
     where
       above : ℕ → Bool
       above p = at (mirrorAbove R) (tableRow n p)
+
       k : ℕ
       k = first (tableRows n) above
+
       hit : k < tableRows n → T (at (mirrorRow R) (tableRow n k))
       hit l = and-r (ltb (tableRow n k .i) (tableRow n k .j)) (at (mirrorRow R) (tableRow n k)) (first-holds (tableRows n) above l)
+
       none : (q : ℕ) → q < k → T (at (mirrorRow R) (tableRow n q)) → ⊥
       none q l t = go (row-in n q (omega (arith, first-le (tableRows n) above))) (lt-or-ge (tableRow n q .i) (tableRow n q .j)) (lt-or-ge (tableRow n q .j) (tableRow n q .i))
         where
           i : ℕ
           i = tableRow n q .i
+
           j : ℕ
           j = tableRow n q .j
+
           a : ℕ
           a = tableRow n q .a
+
           earlier : RowIn n (tableRow n q) → j < i → (b : ℕ) × (b < readingsMost) × T (mirrorRow R j i b) → ⊥
           earlier r h w =
               first-least (tableRows n) above (rowNumber n j i (w .0))
               (omega (arith, l, number-of-row n q, number-by-field n j i (w .0) i j a (r .first) (w .1) h))
               (subst (λ (x : Row). T (at (mirrorAbove R) x)) (sym (row-of-number n j i (w .0) (r .first) (w .1))) (and-i (ltb j i) (mirrorRow R j i (w .0)) (lt→ltb j i h) (w .2)))
+
           go : RowIn n (tableRow n q) → (i < j) ⊎ (j ≤ i) → (j < i) ⊎ (i ≤ j) → ⊥
           go r (inl h) _ = first-least (tableRows n) above q l (and-i (ltb i j) (mirrorRow R i j a) (lt→ltb i j h) t)
           go r (inr g) (inl h) = earlier r h (partner i j a (r .reading) t)

@@ -3,12 +3,12 @@ use mathlib.Core.Path.{_≡_, sym, subst}
 use mathlib.Core.Logic.{_⊎_, inl, inr}
 use mathlib.Core.Bool.{Bool}
 use Prim.Native.Nat.{ℕ, _+_, _-_, _≤_, _<_, zero-le}
-use native.Mathlib.Nat.{not-suc-le-zero, le-refl}
+use native.Mathlib.Nat.{not-suc-le-zero}
 use native.Mathlib.Omega.{arith}
 use lib.Dec.{T}
 use borrow.Author.Count.{below-more}
 use Rattle.theory.specs.Bound.{first}
-use Rattle.theory.specs.BoundLaws.{first-is, first-least, first-holds, first-le, lt-or-ge}
+use Rattle.theory.specs.BoundLaws.{first-is, first-least, first-holds, lt-or-ge}
 
 -- the search is at q, of k
 pub record Passed (k : ℕ) (p : ℕ → Bool) (q : ℕ) : Type 0 where
@@ -48,6 +48,7 @@ found-block {k} {p} {q} m sub r g h same e l = sym (first-is k p (q + r) (omega 
   where
     hit : T (p (q + r))
     hit = subst T (sym (same r l)) (subst (λ (x : ℕ). T (sub x)) (sym e) (first-holds m sub (rw e at l)))
+
     none : (i : ℕ) → i < q + r → (i < q) ⊎ (q ≤ i) → T (p i) → ⊥
     none i b (inl c) t = g .none i c t
     none i b (inr c) t =

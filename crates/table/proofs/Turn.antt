@@ -2,7 +2,7 @@
 use mathlib.Core.Path.{_≡_, refl, sym, ap, ap₂, subst, _∙_}
 use mathlib.Core.Logic.{inl, inr}
 use mathlib.Core.List.{List}
-use Prim.Native.Nat.{ℕ, zero, suc, _+_, _-_, _*_, _/_, _%_, _^_, _≤_, _<_}
+use Prim.Native.Nat.{ℕ, suc, _+_, _-_, _*_, _/_, _%_, _^_, _≤_, _<_}
 use native.Mathlib.Nat.{mod-lt, le-refl, lt-of-lt-of-le, zero-add, add-zero}
 use native.Mathlib.Omega.{arith}
 use lib.Dec.{eqb, lit<}
@@ -10,7 +10,6 @@ use lib.Pow.{pow-mono}
 use lib.Bits.{bitAnd, and-mask}
 use lib.ListN.{getD}
 use Rattle.theory.specs.Bound.{val}
-use Rattle.theory.specs.BoundLaws.{val-most}
 use Rattle.words.specs.Word.{bit, pack}
 use Rattle.words.specs.WordLaws.{two, pack-lt, pack-same}
 use Rattle.table.specs.Cells.{columnOf}
@@ -46,12 +45,15 @@ turned-more {cell} {a} {b} {w} {v} g h e = record { upto = omega (arith, g .upto
   where
     next : (c : ℕ) → b - 1 + suc c ≡ b + c
     next c = omega arith
+
     last : 32 - (b - 1) ≡ suc (32 - b)
     last = omega (arith, g .upto)
+
     more : pack (suc (32 - b)) (λ c. bit (getD cell (b - 1 + c) 0) a) ≡ w * 2 + v
     more = ap₂ (λ (x y : ℕ). x * 2 + y)
         (pack-same (32 - b) (λ c. bit (getD cell (b - 1 + suc c) 0) a) (λ c. bit (getD cell (b + c) 0) a) (λ c l. ap (λ (k : ℕ). bit (getD cell k 0) a) (next c)) ∙ sym (g .word))
         (ap (λ (k : ℕ). val (bit (getD cell k 0) a)) (add-zero (b - 1)) ∙ sym e)
+
     word : w * 2 + v ≡ pack (32 - (b - 1)) (λ c. bit (getD cell (b - 1 + c) 0) a)
     word = sym (ap (λ (k : ℕ). pack k (λ c. bit (getD cell (b - 1 + c) 0) a)) last ∙ more)
 

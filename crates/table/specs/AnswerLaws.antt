@@ -1,7 +1,7 @@
 -- What an answer says determines it, and what an answer of the checks tells whoever asked.
 use mathlib.Core.Path.{_≡_, refl, sym, ap, _∙_}
-use mathlib.Core.List.{[]}
-use Prim.Native.Nat.{ℕ, _≤_}
+use mathlib.Core.List.{List, []}
+use Prim.Native.Nat.{ℕ}
 use native.Mathlib.Omega.{arith}
 use Rattle.refusal.specs.Said.{Said, says, refused}
 use Rattle.refusal.specs.Refusals.{number}
@@ -14,7 +14,7 @@ use Rattle.table.specs.CheckLaws.{passed, refused-on}
 use Rattle.table.specs.Answers.{saidShaped}
 
 -- a refusal says no result
-pub no-result : (q : Refusal) {v : mathlib.Core.List.List ℕ} → refused q ≡ says 0 v → ⊥
+pub no-result : (q : Refusal) {v : List ℕ} → refused q ≡ says 0 v → ⊥
 no-result q e = let z : number q ≡ 0 = ap (λ (s : Said). s .state) e in omega (arith, numbered q)
 
 pub shaped-determined : (x y : Shaped) → saidShaped x ≡ saidShaped y → x ≡ y

@@ -4,9 +4,8 @@ use mathlib.Core.Logic.{_⊎_, inl, inr}
 use mathlib.Core.Bool.{Bool, true, false, cond}
 use mathlib.Core.List.{List, []}
 use Prim.Native.Nat.{ℕ, _≤_, _<_}
-use native.Mathlib.Nat.{le-refl}
 use native.Mathlib.Omega.{arith}
-use lib.Dec.{T, ltb}
+use lib.Dec.{T}
 use borrow.Author.Tests.{lt-ltb, le-ltb}
 use Rattle.theory.specs.Bound.{first}
 use Rattle.theory.specs.BoundLaws.{first-none, first-le, lt-or-ge}
@@ -49,6 +48,7 @@ check-first n p say h = record { passes = λ f. none (first-none n p .1 f); deci
   where
     none : first n p ≡ n → (rest : Said) → atFirst n p say rest ≡ rest
     none e rest = ap (λ (b : Bool). cond b (say (first n p)) rest) (le-ltb (first n p) n (omega arith))
+
     go : (first n p < n) ⊎ (n ≤ first n p) → ((i : ℕ) → i < n → T (p i) → ⊥) ⊎ Refuses (atFirst n p say)
     go (inl l) = inr (say (first n p), h (first n p), λ rest. ap (λ (b : Bool). cond b (say (first n p)) rest) (lt-ltb (first n p) n l))
     go (inr g) = inl (first-none n p .0 (omega (arith, first-le n p)))

@@ -1,22 +1,22 @@
 -- Words and the relation they stand for undo each other; rows and their numbers correspond one to one.
-use mathlib.Core.Path.{_≡_, refl, sym, ap, ap₂, _∙_, subst}
+use mathlib.Core.Path.{_≡_, refl, sym, ap, _∙_, subst}
 use mathlib.Core.Logic.{_↔_, _⊎_, inl, inr}
-use mathlib.Core.Bool.{Bool, _&&_}
+use mathlib.Core.Bool.{_&&_}
 use mathlib.Core.List.{List}
 use Prim.Native.Nat.{ℕ, zero, suc, _+_, _*_, _/_, _%_, _^_, _≤_, _<_}
-use native.Mathlib.Nat.{zero-mul, mul-le-mul, mul-le-mul-right, eq-zero-or-pos, not-suc-le-zero, div-lt-iff-lt-mul, mod-lt, div-add-mod', add-mul}
+use native.Mathlib.Nat.{le-antisymm, zero-mul, mul-le-mul-right, eq-zero-or-pos, not-suc-le-zero, div-lt-iff-lt-mul, mod-lt, div-add-mod', add-mul}
 use native.Mathlib.Omega.{arith}
-use lib.Dec.{T, ltb, lt→ltb, ltb→lt, lit<}
+use lib.Dec.{T, ltb, ltb→lt}
 use lib.Arith.{digits-lt, digits-div, digits-mod}
 use lib.Pow.{pow-pos}
-use lib.ListN.{length, getD, take, drop, length-drop, List·getD-eq-default}
+use lib.ListN.{length, getD, drop, length-drop, List·getD-eq-default}
 use lib.Seq.{length-take-le, getD-take, getD-drop, ext-getD}
 use borrow.Author.Tests.{lt-ltb}
 use Rattle.theory.specs.Limits.{readingsMost}
-use Rattle.theory.specs.BoundLaws.{and-i, and-l, and-r, T-ext, lt-or-ge}
+use Rattle.theory.specs.BoundLaws.{and-l, and-r, T-ext, lt-or-ge}
 use Rattle.theory.specs.Relation.{Rel, Agree}
 use Rattle.words.specs.Word.{bit, pack}
-use Rattle.words.specs.WordLaws.{bit-pack, pack-lt, pack-bit, pack-of, pack-same, bit-lt}
+use Rattle.words.specs.WordLaws.{bit-pack, pack-lt, pack-of, pack-same}
 use Rattle.table.specs.declared.layout.Row.{Row}
 use Rattle.table.specs.Layout.{tableLength, cellStart, RowIn, cellOf, row, rel, tableRows, tableRow, searchRow, rowNumber, tabulate, wordOf, words}
 
@@ -90,6 +90,27 @@ number-by-field n i j a i′ j′ a′ hj ha h =
 
 pub number-by-second : (n i j a j′ a′ : ℕ) → a < readingsMost → j < j′ → rowNumber n i j a < rowNumber n i j′ a′
 number-by-second n i j a j′ a′ ha h = omega arith
+
+-- so a row has the lower number exactly when it comes first by i, then j, then a
+pub number-order : (n i j a i′ j′ a′ : ℕ) → j < n → a < readingsMost → j′ < n → a′ < readingsMost
+    → (rowNumber n i j a < rowNumber n i′ j′ a′) ↔ ((i < i′) ⊎ ((i ≡ i′) × ((j < j′) ⊎ ((j ≡ j′) × (a < a′)))))
+number-order n i j a i′ j′ a′ hj ha hj′ ha′ = (λ h. to h (lt-or-ge i i′) (lt-or-ge i′ i) (lt-or-ge j j′) (lt-or-ge j′ j), from)
+  where
+    to : rowNumber n i j a < rowNumber n i′ j′ a′ → (i < i′) ⊎ (i′ ≤ i) → (i′ < i) ⊎ (i ≤ i′) → (j < j′) ⊎ (j′ ≤ j) → (j′ < j) ⊎ (j ≤ j′) → (i < i′) ⊎ ((i ≡ i′) × ((j < j′) ⊎ ((j ≡ j′) × (a < a′))))
+    to h (inl l) _ _ _ = inl l
+    to h (inr g) (inl l) _ _ = absurd (omega (arith, number-by-field n i′ j′ a′ i j a hj′ ha′ l))
+    to h (inr g) (inr g′) (inl l) _ = inr (le-antisymm g′ g, inl l)
+    to h (inr g) (inr g′) (inr k) (inl l) =
+        let e : i′ * n ≡ i * n = ap (λ (x : ℕ). x * n) (le-antisymm g g′) in
+        absurd (omega (arith, e, number-by-second n i j′ a′ j a ha′ l))
+    to h (inr g) (inr g′) (inr k) (inr k′) =
+        let e : i′ * n ≡ i * n = ap (λ (x : ℕ). x * n) (le-antisymm g g′) in
+        inr (le-antisymm g′ g, inr (le-antisymm k′ k, omega (arith, e)))
+
+    from : (i < i′) ⊎ ((i ≡ i′) × ((j < j′) ⊎ ((j ≡ j′) × (a < a′)))) → rowNumber n i j a < rowNumber n i′ j′ a′
+    from (inl l) = number-by-field n i j a i′ j′ a′ hj ha l
+    from (inr (e, inl l)) = let q : i * n ≡ i′ * n = ap (λ (x : ℕ). x * n) e in omega (arith, q)
+    from (inr (e, inr d)) = let q : i * n ≡ i′ * n = ap (λ (x : ℕ). x * n) e in omega (arith, q)
 
 -- the search for a broken row goes in table order
 pub search-is-table : (n p : ℕ) → searchRow n p ≡ tableRow n p

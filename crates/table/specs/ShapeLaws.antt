@@ -5,19 +5,16 @@ use mathlib.Core.Bool.{Bool, true, false, cond, not, xor, _&&_, true≢false, fa
 use mathlib.Core.List.{List, [], _∷_}
 use Prim.Native.Nat.{ℕ, _≤_, _<_}
 use native.Mathlib.Nat.{le-refl}
-use native.Mathlib.Omega.{arith}
 use lib.Dec.{T, eqb, leb, ltb, eqb→eq, eqb-refl, leb→le, le→leb, ltb→lt, lt→ltb, lit≤}
 use lib.ListN.{length}
-use borrow.Author.Tests.{eq-eqb}
 use Rattle.theory.specs.Limits.{fieldsMost, readingsMost}
 use Rattle.theory.specs.Bound.{any}
-use Rattle.theory.specs.BoundLaws.{and-i, and-l, and-r, not-i, not-e, known, T-ext, any-i, any-e}
+use Rattle.theory.specs.BoundLaws.{and-i, and-l, and-r, not-e, known, T-ext, any-i, any-e}
 use Rattle.theory.specs.Relation.{Rel, WellFormed}
-use Rattle.refusal.specs.Said.{Said, says}
-use Rattle.table.specs.declared.layout.Row.{Row}
+use Rattle.refusal.specs.Said.{says}
 use Rattle.table.specs.Layout.{Sized, tableLength, tableRows, tableRow, rowNumber, at, rel, sizeOf}
 use Rattle.table.specs.LayoutLaws.{Narrow, rel-narrow, row-in, number-in, row-of-number}
-use Rattle.table.specs.Checks.{atFirst, Check}
+use Rattle.table.specs.Checks.{Check}
 use Rattle.table.specs.CheckLaws.{both, check-of, check-test, check-first}
 use Rattle.table.specs.Shape.{badSize, strayRow, diagonalRow, mirrorRow, rowPlace, atFirstRow, afterSizes, afterLength, afterRows, afterShape, GoodSizes, GoodTable}
 
@@ -52,10 +49,12 @@ check-sizes sizes =
         fine : (f : ℕ) → T (leb 1 (sizeOf sizes f) && leb (sizeOf sizes f) readingsMost) ⊎ T (badSize sizes f) → (T (badSize sizes f) → ⊥) → (1 ≤ sizeOf sizes f) × (sizeOf sizes f ≤ readingsMost)
         fine f (inl t) n = (leb→le 1 (sizeOf sizes f) (and-l (leb 1 (sizeOf sizes f)) (leb (sizeOf sizes f) readingsMost) t), leb→le (sizeOf sizes f) readingsMost (and-r (leb 1 (sizeOf sizes f)) (leb (sizeOf sizes f) readingsMost) t))
         fine f (inr t) n = absurd (n t)
+
     bad : GoodSizes sizes → T (leb 1 (length sizes) && leb (length sizes) fieldsMost) × ((f : ℕ) → f < length sizes → T (badSize sizes f) → ⊥)
-    bad g =
-        (and-i (leb 1 (length sizes)) (leb (length sizes) fieldsMost) (le→leb 1 (length sizes) (g .some)) (le→leb (length sizes) fieldsMost (g .few)),
-         λ f l t. not-e (leb 1 (sizeOf sizes f) && leb (sizeOf sizes f) readingsMost) t (and-i (leb 1 (sizeOf sizes f)) (leb (sizeOf sizes f) readingsMost) (le→leb 1 (sizeOf sizes f) (g .each f l .0)) (le→leb (sizeOf sizes f) readingsMost (g .each f l .1))))
+    bad g = (
+      and-i (leb 1 (length sizes)) (leb (length sizes) fieldsMost) (le→leb 1 (length sizes) (g .some)) (le→leb (length sizes) fieldsMost (g .few)),
+      λ f l t. not-e (leb 1 (sizeOf sizes f) && leb (sizeOf sizes f) readingsMost) t (and-i (leb 1 (sizeOf sizes f)) (leb (sizeOf sizes f) readingsMost) (le→leb 1 (sizeOf sizes f) (g .each f l .0)) (le→leb (sizeOf sizes f) readingsMost (g .each f l .1))),
+    )
 
 pub check-length : (n : ℕ) (t : List ℕ) → Check (length t ≡ tableLength n) (afterLength n t)
 unfolding afterLength
@@ -112,9 +111,11 @@ module _ (n : ℕ) (size : ℕ → ℕ) (R : Rel) where
       inside : (i j a b : ℕ) → i < n → j < n → T (R i j a b) → (a < 32) × (b < 32) → T (ltb a (size i) && ltb b (size j)) ⊎ T (not (ltb a (size i) && ltb b (size j))) → (a < size i) × (b < size j)
       inside i j a b hi hj t l (inl s) = (ltb→lt a (size i) (and-l (ltb a (size i)) (ltb b (size j)) s), ltb→lt b (size j) (and-r (ltb a (size i)) (ltb b (size j)) s))
       inside i j a b hi hj t l (inr s) = absurd (h .0 i j a hi hj (l .0) (any-i 32 (λ c. R i j a c && not (ltb a (size i) && ltb c (size j))) b (l .1) (and-i (R i j a b) (not (ltb a (size i) && ltb b (size j))) t s)))
+
       same : (i a b : ℕ) → i < n → T (R i i a b) → (a < 32) × (b < 32) → T (eqb a b) ⊎ T (not (eqb a b)) → a ≡ b
       same i a b hi t l (inl s) = eqb→eq a b s
       same i a b hi t l (inr s) = absurd (h .1 i i a hi hi (l .0) (and-i (eqb i i) (any 32 (λ c. R i i a c && not (eqb a c))) (eqb-refl i) (any-i 32 (λ c. R i i a c && not (eqb a c)) b (l .1) (and-i (R i i a b) (not (eqb a b)) t s))))
+
       turned : (i j a b : ℕ) → i < n → j < n → T (R i j a b) → (a < 32) × (b < 32) → T (R j i b a)
       turned i j a b hi hj t l = rw (← xor-none (R i j a b) (R j i b a) (λ s. h .2 i j a hi hj (l .0) (any-i 32 (λ c. xor (R i j a c) (R j i c a)) b (l .1) s))) t
 

@@ -73,17 +73,22 @@ module _ (n : ℕ) (t : List ℕ) (i j a b : ℕ) (long : length t ≡ tableLeng
     where
       p : ℕ
       p = rowNumber n i j a
+
       q : ℕ
       q = rowNumber n k l c
+
       w : ℕ
       w = pack readingsMost (λ x. bit (getD t p 0) x && not (eqb x b))
+
       here : (k ≡ i) × (l ≡ j) × (c ≡ a) → (eqb k i && (eqb l j && (eqb c a && eqb d b))) ≡ eqb d b
       here e = rw (eq-eqb k i (e .0), eq-eqb l j (e .1), eq-eqb c a (e .2))
+
       away : (q ≡ p → ⊥) → T (eqb k i && (eqb l j && (eqb c a && eqb d b))) → ⊥
       away e x =
           let y = and-r (eqb k i) (eqb l j && (eqb c a && eqb d b)) x in
           let z = and-r (eqb l j) (eqb c a && eqb d b) y in
           e (λ v. rowNumber n (eqb→eq k i (and-l (eqb k i) (eqb l j && (eqb c a && eqb d b)) x) v) (eqb→eq l j (and-l (eqb l j) (eqb c a && eqb d b) y) v) (eqb→eq c a (and-l (eqb c a) (eqb d b) z) v))
+
       go : Dec (q ≡ p) → bit (getD (set t p w) q 0) d ≡ (bit (getD t q 0) d && not (eqb k i && (eqb l j && (eqb c a && eqb d b))))
       go (yes e) =
           ap (λ (x : ℕ). bit (getD (set t p w) x 0) d) e
@@ -101,8 +106,10 @@ module _ (n : ℕ) (t : List ℕ) (i j a b : ℕ) (long : length t ≡ tableLeng
       none : (u : List ℕ) → (32 ≤ c) ⊎ (32 ≤ d) → rel n u k l c d ≡ false
       none u (inl h) = unfold rel in rw (le-ltb c 32 h)
       none u (inr h) = unfold rel in rw (le-ltb d 32 h, and-false (ltb c 32))
+
       outside : (32 ≤ c) ⊎ (32 ≤ d) → rel n (cleared t (rowNumber n i j a) b) k l c d ≡ (rel n t k l c d && not (eqb k i && (eqb l j && (eqb c a && eqb d b))))
       outside h = none (cleared t (rowNumber n i j a) b) h ∙ sym (ap (λ (x : Bool). x && not (eqb k i && (eqb l j && (eqb c a && eqb d b)))) (none t h))
+
       go : (c < 32) ⊎ (32 ≤ c) → (d < 32) ⊎ (32 ≤ d) → rel n (cleared t (rowNumber n i j a) b) k l c d ≡ (rel n t k l c d && not (eqb k i && (eqb l j && (eqb c a && eqb d b))))
       go (inl hc) (inl hd) = rel-bit n (cleared t (rowNumber n i j a) b) k l c d hc hd ∙ clear-bit k l c d hl hc hd ∙ sym (ap (λ (x : Bool). x && not (eqb k i && (eqb l j && (eqb c a && eqb d b)))) (rel-bit n t k l c d hc hd))
       go (inl hc) (inr h) = outside (inr h)

@@ -1,21 +1,24 @@
 // The checks 1 to 6 of sizes and a table.
-use crate::layout::{FIELDS_MOST, READINGS_MOST, cell, field_size, row_at, table_length};
+use crate::layout::FIELDS_MOST;
+use crate::layout::READINGS_MOST;
+use crate::layout::cell;
+use crate::layout::field_size;
+use crate::layout::row_at;
+use crate::layout::table_length;
 use refusal::Refusal;
-
 ghost use mathlib.Core.Path.{_≡_};
-ghost use mathlib.Core.Bool.{_&&_, not, xor};
+ghost use mathlib.Core.Bool.{_&&_};
 ghost use mathlib.Core.List.{[]};
-ghost use Prim.Native.Nat.{ℕ, _<_, _≤_};
-ghost use lib.Dec.{T, eqb, ltb};
-ghost use lib.ListN.{length, getD};
+ghost use Prim.Native.Nat.{_<_};
+ghost use lib.Dec.{ltb};
+ghost use lib.ListN.{length};
 ghost use Rattle.theory.specs.Limits.{readingsMost};
-ghost use Rattle.theory.specs.Bound.{any, first, val};
+ghost use Rattle.theory.specs.Bound.{first, val};
 ghost use Rattle.words.specs.Word.{bit, pack};
 ghost use Rattle.refusal.specs.Said.{says};
 ghost use Rattle.table.specs.Layout.{Sized, rel, firstRow, sizeOf};
 ghost use Rattle.table.specs.Cells.{strayIn, diagonalIn, columnOf, mirrorIn};
-ghost use Rattle.table.specs.Shape.{badSize, strayRow, diagonalRow, mirrorRow, mirrorAbove, afterSizes, afterRows, afterShape, GoodSizes};
-ghost use Rattle.table.specs.ShapeLaws.{Clear};
+ghost use Rattle.table.specs.Shape.{badSize, strayRow, diagonalRow, mirrorAbove, afterSizes, afterRows, afterShape};
 ghost use Rattle.table.specs.Answers.{saidShaped};
 
 // What the checks find.

@@ -1,6 +1,6 @@
 // The strike of one pair and its mirror.
-use crate::layout::{READINGS_MOST, cell_start};
-
+use crate::layout::READINGS_MOST;
+use crate::layout::cell_start;
 ghost use mathlib.Core.Path.{_≡_};
 ghost use Prim.Native.Nat.{_<_};
 ghost use lib.ListN.{length};

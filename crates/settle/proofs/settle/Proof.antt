@@ -2,7 +2,7 @@
 use borrow.Author.Needs.{needs}
 use Rattle.table.specs.ShapeLaws.{check-shape}
 use Rattle.table.specs.AnswerLaws.{told-refused, told-good}
-use Rattle.settle.specs.SettleLaws.{GoodLent}
+use Rattle.settle.specs.Settle.{GoodLent}
 use Rattle.settle.proofs.Answering.{shape-refused, length-refused, good-lent, good-run, ran-sized, ran-settled, ran-unfinished}
 use Rattle.settle.proofs.settle.Statement.{statement}
 use Rattle.settle.proofs.settle.Tie as tie

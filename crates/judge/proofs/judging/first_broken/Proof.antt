@@ -1,7 +1,6 @@
 -- `first_broken` meets its contract: at each level of the search no row passed is broken.
 use borrow.Author.Needs.{needs}
 use Prim.Native.Nat.{_-_}
-use lib.ListN.{length}
 use Rattle.table.proofs.Faults.{hit, miss}
 use Rattle.judge.proofs.Gaps.{row-broken, Readings, Columns, Fields, fields-none, columns-none, readings-none, readings-more, columns-more, fields-more, broken-said, whole-said}
 use Rattle.judge.proofs.judging.first_broken.Statement.{statement}

@@ -1,6 +1,5 @@
 -- `nearer` meets its contract: a walk of its MIR, by hand. The slice passed is handed back at a nearer lifetime.
 -- A `&[u32]` is Copy, so what it owns is had twice: once for s at exit, and once for the result, whose fractured borrow is shortened by the signature's bound.
--- Assumes nothing.
 use mathlib.Core.Path.{refl}
 use Prim.Native.Nat.{ℕ}
 use mathlib.Core.List.{List, [], _∷_}

@@ -1,7 +1,8 @@
 -- `show` meets its contract: the table that `shown_from` names has the words.
 use borrow.Author.Needs.{needs}
 use mathlib.Core.Path.{refl, _∙_}
-use Rattle.judge.proofs.Shows.{told-show, told-opening, told-settled, told-none, show-sized, shown-near}
+use native.Mathlib.Omega.{arith}
+use Rattle.judge.proofs.Shows.{told-show, told-opening, told-settled, told-none, shown-near}
 use Rattle.judge.proofs.showing.show.Statement.{statement}
 use Rattle.judge.proofs.showing.show.Tie as tie
 
@@ -17,7 +18,7 @@ enum-told c = search needs
 cell-requires : tie.Need-cell-requires
 cell-requires c κs =
     let g = told-show _ _ _ _ _ _ (c .before .before .shown-from .ensures) (c .enum-told .given .1) refl in
-    (show-sized g .0, g .first, g .second)
+    omega arith
 
 enum-told-2 : tie.Need-enum-told-2
 enum-told-2 c = search needs
@@ -25,7 +26,7 @@ enum-told-2 c = search needs
 cell-requires-2 : tie.Need-cell-requires-2
 cell-requires-2 c κs =
     let g = told-show _ _ _ _ _ _ (c .before .before .shown-from .ensures) (c .enum-told2 .given .1) refl in
-    (show-sized g .1, g .first, g .second)
+    omega arith
 
 enum-told-3 : tie.Need-enum-told-3
 enum-told-3 c = search needs

@@ -1,7 +1,6 @@
 -- `changed_in` meets its contract: no row passed would change.
 use borrow.Author.Needs.{needs}
 use Prim.Native.Nat.{_-_}
-use native.Mathlib.Omega.{arith}
 use Rattle.table.specs.Layout.{rel}
 use Rattle.table.proofs.Search.{Passed, passed-none, passed-one, found, passed-all}
 use Rattle.settle.specs.Changes.{changedAbove}
@@ -21,14 +20,11 @@ returns c = changed-below _ _ _ _ (c .if1 .taken)
 loop-holds : tie.Need-loop-holds Inv-loop μ-loop
 loop-holds c = passed-none _ _
 
-row-word-requires : tie.Need-row-word-requires Inv-loop μ-loop
-row-word-requires c κs = search needs
-
-round-row-requires : tie.Need-round-row-requires Inv-loop μ-loop
-round-row-requires c κs = search needs
+lost-bits-requires : tie.Need-lost-bits-requires Inv-loop μ-loop
+lost-bits-requires c κs = search needs
 
 returns-2 : tie.Need-returns-2 Inv-loop μ-loop
-returns-2 c = found (c .before .before .before .before .loop .inv) (search needs) (row-changed _ _ _ _ _ (search needs) _ _ (omega arith) (c .before .before .row-word .ensures) (c .before .round-row .ensures) (search needs) (c .if2 .taken))
+returns-2 c = found (c .before .before .before .loop .inv) (search needs) (row-changed _ _ _ _ _ _ (search needs) (c .before .lost-bits .ensures) (c .if2 .taken))
 
 add-a : tie.Need-add-a Inv-loop μ-loop
 add-a c = search needs
@@ -37,7 +33,7 @@ loop-less : tie.Need-loop-less Inv-loop μ-loop
 loop-less c = search needs
 
 loop-again : tie.Need-loop-again Inv-loop μ-loop
-loop-again c = passed-one (c .before .before .before .before .loop .inv) (search needs) (row-same _ _ _ _ _ (search needs) _ _ (omega arith) (c .before .before .row-word .ensures) (c .before .round-row .ensures) (search needs) (c .if2 .left))
+loop-again c = passed-one (c .before .before .before .loop .inv) (search needs) (row-same _ _ _ _ _ _ (c .before .lost-bits .ensures) (c .if2 .left))
 
 returns-3 : tie.Need-returns-3 Inv-loop μ-loop
 returns-3 c = passed-all (c .before .loop .inv) (c .loop-test .left)
@@ -50,8 +46,7 @@ changed-in-spec =
     μ-loop
     returns
     loop-holds
-    row-word-requires
-    round-row-requires
+    lost-bits-requires
     returns-2
     add-a
     loop-less

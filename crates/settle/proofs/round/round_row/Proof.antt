@@ -9,10 +9,10 @@ use Rattle.settle.proofs.round.round_row.Statement.{statement}
 use Rattle.settle.proofs.round.round_row.Tie as tie
 
 abbrev Inv-loop : tie.InvT-loop
-Inv-loop table n i j a w₀ k₀ w k = Kept n table i j a k w
+Inv-loop t n i j a w₀ k₀ w k = Kept n t i j a k w
 
 abbrev μ-loop : tie.MeasureT-loop
-μ-loop table n i j a w₀ k₀ w k = n - k
+μ-loop t n i j a w₀ k₀ w k = n - k
 
 row-word-requires : tie.Need-row-word-requires Inv-loop μ-loop
 row-word-requires c κs = search needs

@@ -4,8 +4,8 @@ use Prim.Native.Nat.{_-_}
 use native.Mathlib.Omega.{arith}
 use lib.ListN.{length}
 use Rattle.settle.proofs.Moving.{Exchanged, exchanged-none, exchanged-more, exchanged-all}
-use Rattle.settle.proofs.exchange.Statement.{statement}
-use Rattle.settle.proofs.exchange.Tie as tie
+use Rattle.settle.proofs.running.exchange.Statement.{statement}
+use Rattle.settle.proofs.running.exchange.Tie as tie
 
 abbrev Inv-loop : tie.InvT-loop
 Inv-loop x₀ y₀ p₀ x y p = Exchanged x₀ y₀ x y p

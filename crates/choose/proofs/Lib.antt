@@ -1,0 +1,5 @@
+pub mod Fitting
+pub mod Held
+pub mod Taking
+pub mod Filled
+pub mod Judging

@@ -1,0 +1,5 @@
+pub mod Choosing
+pub mod ChoosingLaws
+pub mod Taken
+pub mod Answers
+pub mod Theorems

@@ -1,0 +1,15 @@
+// Runs the vectors of data/ through the entry points and prints, for each that asks something, the line and what it gives.
+mod asking;
+mod dates;
+mod lines;
+mod making;
+mod print;
+mod script;
+mod state;
+
+fn main() {
+    lines::run_dates(b"dates");
+    lines::run_script(b"tables");
+    lines::run_script(b"settling");
+    lines::run_script(b"choosing");
+}

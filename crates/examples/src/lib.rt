@@ -1,0 +1,1 @@
+// The examples of the paper: specs/ has them all. Nothing runs here.
