@@ -31,8 +31,8 @@ use Rattle.table.specs.Theorems.{sizes-pass-iff-good, after-good-shape}
 use Rattle.judge.specs.Asked.{brokenRow, atFirstBroken, rowsSays}
 use Rattle.judge.specs.Theorems.{kept-is-the-count}
 use Rattle.settle.specs.ChangesLaws.{check-settled}
-use Rattle.settle.specs.Settle.{reached}
-use Rattle.settle.specs.SettleLaws.{GoodLent, good-says, good-table, says-settled, says-unfinished}
+use Rattle.settle.specs.Settle.{GoodLent, reached}
+use Rattle.settle.specs.SettleLaws.{good-says, good-table, says-settled, says-unfinished}
 use Rattle.choose.specs.Choosing.{choiceOf, afterEmpty, afterFixed, afterClash, chooseSays}
 use Rattle.choose.specs.ChoosingLaws.{check-lent, check-choose}
 use Rattle.examples.specs.Starred.{bytes, daysIn, sizesOf, gapsOf, rule, opened, tableOf, Choosing, gives, refuses, Case, Example, settling, reading, Every, those, Reads, Chooses, Result, Settling, Opens, Holds}
