@@ -1,0 +1,4 @@
+mod Printing
+mod Judged
+mod Choosing
+mod Settlements

@@ -1,0 +1,44 @@
+-- DT by the first arm; any other mark is not DT.
+use mathlib.Core.Path.{_≡_, refl, ap}
+use mathlib.Core.Bool.{Bool}
+use mathlib.Core.List.{List, [], _∷_}
+use Prim.Native.Nat.{ℕ}
+use types.Run.{OneOf, miss}
+use denote.Enum.Declared.{tagOf}
+use borrow.Author.Needs.{needs}
+use Rattle.scan.specs.Sheet.{daysAt}
+use Rattle.scan.specs.Judging.{fieldBy}
+use Rattle.scan.specs.declared.mark.Mark.{Mark}
+use Rattle.scan.specs.declared.mark.Mark.the-variants.{Date, Days, Gap, Strike, End, Unknown}
+use Rattle.scan.proofs.mark.Mark.{the-type}
+use Rattle.scan.proofs.Steps.{reads-as}
+use Rattle.scan.proofs.field.field_at.Statement.{statement}
+use Rattle.scan.proofs.field.field_at.Tie as tie
+
+listed : (sep : ℕ → Bool) (m : Mark) (s : List ℕ) (at : ℕ) → OneOf (1 ∷ 2 ∷ 3 ∷ 4 ∷ 5 ∷ []) (tagOf the-type m) → fieldBy sep m s at ≡ daysAt s at
+listed sep Date s at k = absurd (miss (1 ∷ 2 ∷ 3 ∷ 4 ∷ 5 ∷ []) 0 tt k)
+listed sep Days s at k = refl
+listed sep Gap s at k = refl
+listed sep Strike s at k = refl
+listed sep End s at k = refl
+listed sep Unknown s at k = refl
+
+enum-told : tie.Need-enum-told
+enum-told c = search needs
+
+date-at-requires : tie.Need-date-at-requires
+date-at-requires c κs = search needs
+
+returns : tie.Need-returns
+returns c =
+    let a = c .before .before .before .before .args in
+    reads-as (ap (λ (m : Mark). fieldBy _ m (a .sheet .now) (a .at)) (c .before .enum-told .given .1)) (c .date-at .ensures)
+
+days-at-requires : tie.Need-days-at-requires
+days-at-requires c κs = search needs
+
+returns-2 : tie.Need-returns-2
+returns-2 c = reads-as (listed _ (c .before .before .before .args .mark) _ _ (c .before .match .keys2)) (c .days-at .ensures)
+
+pub field-at-spec : {M : Type 1} → statement M
+field-at-spec = tie.close (tie.spec enum-told date-at-requires returns days-at-requires returns-2)

@@ -1,0 +1,3 @@
+// Sheets opened into a table.
+mod gap;
+mod open;
