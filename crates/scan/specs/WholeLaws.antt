@@ -77,13 +77,16 @@ step-good sep t s at d n e = go (markOf (numberAt s at)) (step-more sep t s at (
         (rw (field-of (p .is)) (means-good sep (take 10 (drop (at + 2) s)) (p .shown)), a .1, a .0)
     go Days f =
         let a = adds-more t at (daysAt s at) (field d) n f in
-        let p = days-stand s at (field d) n (a .2) in
-        (rw (field-of (p .is)) (record {
-          some = rw length-tabulate (p .some);
-          few = rw length-tabulate (p .few);
-          rise = true-holds (p .rise);
-          inTime = true-holds (p .inTime);
-        }), a .1, a .0)
+        let p = days-stand s at (field d) n (a .2) in (
+          rw (field-of (p .is)) (record {
+            some = rw length-tabulate (p .some);
+            few = rw length-tabulate (p .few);
+            rise = true-holds (p .rise);
+            inTime = true-holds (p .inTime);
+          }),
+          a .1,
+          a .0,
+        )
     go Gap f = absurd (let p = gap-stands (t .sizes) s at (field d) n f .is in let z : _≡_ {A = ℕ} 0 1 = cc p in omega arith)
     go Strike f = absurd (let p = strike-stands (t .sizes) s at (field d) n f .is in let z : _≡_ {A = ℕ} 0 1 = cc p in omega arith)
     go End f = absurd (end-no-more (t .sizes) s at (field d) n f)

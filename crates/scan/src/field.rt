@@ -14,11 +14,11 @@ ghost use Rattle.refusal.specs.Refusals.{number};
 ghost use Rattle.refusal.specs.Said.{says, refused};
 ghost use Rattle.scan.specs.Sheet.{stop, numberAt, early, dateAt, daysAt};
 ghost use Rattle.scan.specs.Judging.{fieldBy, ReadsField};
-
-use calendar::{DATES, DateAnswer};
 use crate::mark::Mark;
 use crate::number;
 use crate::step::Verdict;
+use calendar::DATES;
+use calendar::DateAnswer;
 use refusal::Refusal;
 use table::READINGS_MOST;
 

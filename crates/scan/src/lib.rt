@@ -9,7 +9,6 @@ ghost use mathlib.Core.Path.{_≡_};
 ghost use Rattle.calendar.specs.DateText.{separator};
 ghost use Rattle.scan.specs.Sheet.{scan};
 ghost use Rattle.scan.specs.Answer.{saidOpened, scanSays};
-
 use refusal::Refusal;
 use step::Verdict;
 use table::FIELDS_MOST;

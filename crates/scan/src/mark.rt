@@ -3,7 +3,6 @@ ghost use mathlib.Core.Path.{_≡_};
 ghost use Prim.Native.Nat.{_+_, _≤_};
 ghost use lib.ListN.{length};
 ghost use Rattle.scan.specs.Sheet.{numberAt, markOf};
-
 use crate::number;
 
 // What a mark announces: DT, FD, GP, PR, EN.

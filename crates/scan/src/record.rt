@@ -4,7 +4,6 @@ ghost use Prim.Native.Nat.{_+_, _≤_};
 ghost use lib.ListN.{length};
 ghost use Rattle.scan.specs.Sheet.{gapRight, strikeRight};
 ghost use Rattle.scan.specs.Judging.{ReadsInterval, ReadsPair};
-
 use crate::number;
 
 // GP: the days from a reading of field i to one of field j, from lo to hi, both raised by 32,768.

@@ -5,7 +5,6 @@ ghost use lib.ListN.{length};
 ghost use Rattle.calendar.specs.DateText.{separator};
 ghost use Rattle.scan.specs.Sheet.{adds, gapAt, strikeAt, endAt, stepAt};
 ghost use Rattle.scan.specs.Judging.{gist, gistOf, fieldBy};
-
 use crate::field;
 use crate::mark;
 use crate::mark::Mark;

@@ -28,11 +28,11 @@ between-masks w x y from to h ex ey =
     pack-of 32 (bitAnd (bitAnd w x) ((2 ^ 32 - 1) - y)) _
     (and-lt 32 (bitAnd w x) ((2 ^ 32 - 1) - y) (and-lt 32 w x h (rw ex (pack-lt 32 _))) (ones-sub-lt 32 y))
     (λ b l.
-      bit-and (bitAnd w x) ((2 ^ 32 - 1) - y) b
-      ∙ ap₂ _&&_
-      (bit-and w x b ∙ ap (λ (v : ℕ). bit w b && bit v b) ex ∙ ap (λ (p : Bool). bit w b && p) (bit-pack 32 (λ c. ltb c to) b l))
-      (bit-not 32 y b (rw ey (pack-lt 32 _)) l ∙ ap (λ (v : ℕ). not (bit v b)) ey ∙ ap not (bit-pack 32 (λ c. ltb c from) b l) ∙ not-below b from)
-      ∙ go (bit w b) (ltb b to) (leb from b))
+    bit-and (bitAnd w x) ((2 ^ 32 - 1) - y) b
+    ∙ ap₂ _&&_
+    (bit-and w x b ∙ ap (λ (v : ℕ). bit w b && bit v b) ex ∙ ap (λ (p : Bool). bit w b && p) (bit-pack 32 (λ c. ltb c to) b l))
+    (bit-not 32 y b (rw ey (pack-lt 32 _)) l ∙ ap (λ (v : ℕ). not (bit v b)) ey ∙ ap not (bit-pack 32 (λ c. ltb c from) b l) ∙ not-below b from)
+    ∙ go (bit w b) (ltb b to) (leb from b))
   where
     go : (p q r : Bool) → (p && q && r) ≡ (p && (r && q))
     go true true true = refl
@@ -57,7 +57,7 @@ full-one rows columns same a m v x s h em ev ex =
     ex
     ∙ pack-same 32 _ _
     (λ b l.
-      ap₂ _&&_
-      (ap (λ (y : ℕ). bit y b) em ∙ bit-pack 32 (λ c. ltb c columns) b l)
-      (ap (λ (y : ℕ). bit y b) ev ∙ bit-pack 32 (λ c. bit 0 c || eqb c a) b l ∙ ap (λ (p : Bool). p || eqb b a) (bit-none b) ∙ eqb-turn b a)
-      ∙ sym (simp (s, lt-ltb a rows h)))
+    ap₂ _&&_
+    (ap (λ (y : ℕ). bit y b) em ∙ bit-pack 32 (λ c. ltb c columns) b l)
+    (ap (λ (y : ℕ). bit y b) ev ∙ bit-pack 32 (λ c. bit 0 c || eqb c a) b l ∙ ap (λ (p : Bool). p || eqb b a) (bit-none b) ∙ eqb-turn b a)
+    ∙ sym (simp (s, lt-ltb a rows h)))

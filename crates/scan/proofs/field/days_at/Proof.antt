@@ -97,7 +97,7 @@ refused-requires-5 c κs = search needs
 
 -- src/field.rt:116:9
 returns-5 : tie.Need-returns-5
-returns-5 c = 
+returns-5 c =
     reads-as
     (days-wrong _ _ (omega arith) (omega arith) (omega arith) _ _ (c .before .before .before .before .before .before .before .before .byte-at .ensures) (omega arith) (c .before .before .before .before .listed .ensures)
     (sym (c .before .before .is-right .ensures) ∙ not-true _ (c .before .if5 .taken)))

@@ -75,7 +75,7 @@ enum-told-6 c = search needs
 
 -- src/step.rt:80:1
 returns-2 : tie.Need-returns-2
-returns-2 c = 
+returns-2 c =
     let a = c .before .before .before .before .before .before .before .args in
     c .judge-field .ensures
     ∙ ap (λ (m : Mark). gist (adds (record { sizes = a .sizes .now; late = a .late }) (a .at) (fieldBy separator m (a .sheet .now) (a .at)))) (c .before .enum-told .given .1)
@@ -83,7 +83,7 @@ returns-2 c =
 
 -- src/step.rt:80:1
 returns-3 : tie.Need-returns-3
-returns-3 c = 
+returns-3 c =
     let a = c .before .before .before .before .before .before .before .args in
     c .judge-field2 .ensures
     ∙ ap (λ (m : Mark). gist (adds (record { sizes = a .sizes .now; late = a .late }) (a .at) (fieldBy separator m (a .sheet .now) (a .at)))) (c .before .enum-told2 .given .1)
