@@ -1,7 +1,12 @@
 // A cell shown, from the settled table or, where that holds no bit, from the opening one.
 use refusal::Refusal;
+use table::READINGS_MOST;
 use table::Shaped;
 ghost use mathlib.Core.Path.{_≡_};
+ghost use Prim.Native.Nat.{_%_};
+ghost use lib.Dec.{eqb};
+ghost use lib.ListN.{length};
+ghost use Rattle.theory.specs.Limits.{readingsMost};
 ghost use Rattle.judge.specs.Answers.{saidShown};
 ghost use Rattle.judge.specs.Asked.{showSays, shownWords};
 ghost use Rattle.judge.specs.Bits.{noBit};
@@ -13,16 +18,30 @@ pub enum Shown {
     Refused(Refusal),
 }
 
-// The table holds no bit at all.
+// The bits of all the words, gathered without looking at each.
+fn gathered(rows: &[u32]) -> u32
+    ensures { λ r. ⌜ eqb r 0 ≡ noBit (now (rows .entry)) ⌝ }
+{
+    let mut bits: u32 = 0;
+    let mut a: usize = 0;
+    while a < rows.len() {
+        bits |= rows[a];
+        a += 1;
+    }
+    bits
+}
+
+// The table holds no bit at all: none of its cells does.
 fn holds_none(table: &[u32]) -> bool
+    requires { ⌜ length (now table) % readingsMost ≡ 0 ⌝ }
     ensures { λ r. ⌜ r ≡ noBit (now (table .entry)) ⌝ }
 {
     let mut p: usize = 0;
     while p < table.len() {
-        if table[p] != 0 {
+        if gathered(&table[p..p + READINGS_MOST]) != 0 {
             return false;
         }
-        p += 1;
+        p += READINGS_MOST;
     }
     true
 }

@@ -15,7 +15,7 @@ use Rattle.theory.specs.BoundLaws.{T-ext, any-same, any-i, any-e, known, not-e}
 use Rattle.words.specs.Word.{bit, pack}
 use Rattle.words.specs.WordLaws.{bit-pack, pack-of, bit-none}
 use Rattle.table.specs.Layout.{sizeOf}
-use Rattle.table.specs.Cells.{strayIn, diagonalIn, columnOf, mirrorIn}
+use Rattle.table.specs.Cells.{strayIn, diagonalIn, mirrorIn}
 use Rattle.table.specs.Shape.{badSize}
 use Rattle.table.specs.ShapeLaws.{xor-same, xor-none}
 
@@ -60,16 +60,16 @@ pub diagonal-at : (cell : List ℕ) (a : ℕ) {m : ℕ} {r : Bool} → m ≡ pac
 unfolding diagonalIn
 diagonal-at cell a {m} {r} e f = f ∙ any-same 32 _ _ (λ b l. rw (e, bit-pack 32 (λ c. bit 0 c || eqb c a) b l, bit-none, eqb-comm b a))
 
-pub mirror-differs : (cell mirror : List ℕ) (a : ℕ) {v : ℕ} → getD cell a 0 < 2 ^ 32 → v ≡ columnOf mirror a → (getD cell a 0 ≡ v → ⊥) → T (mirrorIn cell mirror a)
-unfolding mirrorIn columnOf
+pub mirror-differs : (cell mirror : List ℕ) (a : ℕ) {v : ℕ} → getD cell a 0 < 2 ^ 32 → v ≡ pack readingsMost (λ b. bit (getD mirror b 0) a) → (getD cell a 0 ≡ v → ⊥) → T (mirrorIn cell mirror a)
+unfolding mirrorIn
 mirror-differs cell mirror a {v} f e n = go (known (mirrorIn cell mirror a))
   where
     go : T (mirrorIn cell mirror a) ⊎ T (not (mirrorIn cell mirror a)) → T (mirrorIn cell mirror a)
     go (inl t) = t
     go (inr t) = absurd (n (pack-of 32 (getD cell a 0) (λ b. bit (getD mirror b 0) a) f (λ b l. xor-none (bit (getD cell a 0) b) (bit (getD mirror b 0) a) (λ x. not-e (mirrorIn cell mirror a) t (any-i 32 (λ c. xor (bit (getD cell a 0) c) (bit (getD mirror c 0) a)) b l x))) ∙ sym e))
 
-pub mirror-same : (cell mirror : List ℕ) (a : ℕ) {v : ℕ} → v ≡ columnOf mirror a → getD cell a 0 ≡ v → T (mirrorIn cell mirror a) → ⊥
-unfolding mirrorIn columnOf
+pub mirror-same : (cell mirror : List ℕ) (a : ℕ) {v : ℕ} → v ≡ pack readingsMost (λ b. bit (getD mirror b 0) a) → getD cell a 0 ≡ v → T (mirrorIn cell mirror a) → ⊥
+unfolding mirrorIn
 mirror-same cell mirror a {v} e s t =
     let w = any-e 32 (λ b. xor (bit (getD cell a 0) b) (bit (getD mirror b 0) a)) t in
     xor-same (bit (getD cell a 0) (w .0)) (bit (getD mirror (w .0) 0) a) (ap (λ (x : ℕ). bit x (w .0)) (s ∙ e) ∙ bit-pack 32 (λ b. bit (getD mirror b 0) a) (w .0) (w .1)) (w .2)

@@ -6,7 +6,7 @@ use lib.Dec.{eqb, ltb}
 use lib.ListN.{getD}
 use Rattle.theory.specs.Limits.{readingsMost}
 use Rattle.theory.specs.Bound.{any}
-use Rattle.words.specs.Word.{bit, pack}
+use Rattle.words.specs.Word.{bit}
 
 -- row a has a bit outside the first size rows and the mask
 unfoldable pub strayIn : ℕ → ℕ → List ℕ → ℕ → Bool
@@ -15,10 +15,6 @@ strayIn size mask cell a = any readingsMost (λ b. bit (getD cell a 0) b && not 
 -- row a has a bit other than bit a
 unfoldable pub diagonalIn : List ℕ → ℕ → Bool
 diagonalIn cell a = any readingsMost (λ b. bit (getD cell a 0) b && not (eqb a b))
-
--- column a as a word
-unfoldable pub columnOf : List ℕ → ℕ → ℕ
-columnOf cell a = pack readingsMost (λ b. bit (getD cell b 0) a)
 
 -- row a differs from column a of the mirror
 unfoldable pub mirrorIn : List ℕ → List ℕ → ℕ → Bool

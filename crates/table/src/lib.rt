@@ -13,7 +13,6 @@ pub use layout::row_at;
 pub use layout::row_word;
 pub use layout::table_length;
 pub use shaping::Shaped;
-pub use shaping::column;
 pub use shaping::shape;
 pub use shaping::sized;
 pub use striking::strike;

@@ -13,11 +13,11 @@ ghost use Prim.Native.Nat.{_<_};
 ghost use lib.Dec.{ltb};
 ghost use lib.ListN.{length};
 ghost use Rattle.theory.specs.Limits.{readingsMost};
-ghost use Rattle.theory.specs.Bound.{first, val};
+ghost use Rattle.theory.specs.Bound.{any, first};
 ghost use Rattle.words.specs.Word.{bit, pack};
 ghost use Rattle.refusal.specs.Said.{says};
 ghost use Rattle.table.specs.Layout.{Sized, rel, firstRow, sizeOf};
-ghost use Rattle.table.specs.Cells.{strayIn, diagonalIn, columnOf, mirrorIn};
+ghost use Rattle.table.specs.Cells.{strayIn, diagonalIn, mirrorIn};
 ghost use Rattle.table.specs.Shape.{badSize, strayRow, diagonalRow, mirrorAbove, afterSizes, afterRows, afterShape};
 ghost use Rattle.table.specs.Answers.{saidShaped};
 
@@ -52,11 +52,28 @@ fn row_mask(a: usize, size: usize, mask: u32) -> u32
     if a < size { mask } else { 0 }
 }
 
-// The first row of a cell with a bit outside size rows and the mask, or 32.
+// Some row of a cell has a bit outside size rows and the mask: a pass that only gathers such bits.
+fn any_stray(cell: &[u32], size: usize, mask: u32) -> bool
+    requires { ⌜ length (now cell) ≡ readingsMost ⌝ }
+    ensures { λ r. ⌜ r ≡ any readingsMost (strayIn size mask (now (cell .entry))) ⌝ }
+{
+    let mut strays: u32 = 0;
+    let mut a: usize = 0;
+    while a < READINGS_MOST {
+        strays |= cell[a] & !row_mask(a, size, mask);
+        a += 1;
+    }
+    strays != 0
+}
+
+// The first such row, or 32: looked for only where there is one.
 fn stray_in(cell: &[u32], size: usize, mask: u32) -> usize
     requires { ⌜ length (now cell) ≡ readingsMost ⌝ }
     ensures { λ r. ⌜ r ≡ first readingsMost (strayIn size mask (now (cell .entry))) ⌝ }
 {
+    if !any_stray(cell, size, mask) {
+        return READINGS_MOST;
+    }
     let mut a: usize = 0;
     while a < READINGS_MOST {
         if words::outside(cell[a], row_mask(a, size, mask)) {
@@ -82,36 +99,15 @@ fn diagonal_in(cell: &[u32]) -> usize
     a
 }
 
-// Bit a of w, as a number.
-fn digit(w: u32, a: u32) -> u32
-    requires { ⌜ a < readingsMost ⌝ }
-    ensures { λ r. ⌜ r ≡ val (bit w a) ⌝ }
-{
-    (w >> a) & 1
-}
-
-// Column a of a cell, as a word.
-pub fn column(cell: &[u32], a: u32) -> u32
-    requires { ⌜ (length (now cell) ≡ readingsMost) × (a < readingsMost) ⌝ }
-    ensures { λ r. ⌜ r ≡ columnOf (now (cell .entry)) a ⌝ }
-{
-    let mut w: u32 = 0;
-    let mut b: usize = READINGS_MOST;
-    while 0 < b {
-        b -= 1;
-        w = w * 2 + digit(cell[b], a);
-    }
-    w
-}
-
 // The first row of a cell that differs from its column of the mirror, or 32.
 fn mirror_in(cell: &[u32], mirror: &[u32]) -> usize
     requires { ⌜ (length (now cell) ≡ readingsMost) × (length (now mirror) ≡ readingsMost) ⌝ }
     ensures { λ r. ⌜ r ≡ first readingsMost (mirrorIn (now (cell .entry)) (now (mirror .entry))) ⌝ }
 {
+    let turned = words::turned(mirror);
     let mut a: usize = 0;
     while a < READINGS_MOST {
-        if cell[a] != column(mirror, a as u32) {
+        if cell[a] != turned[a] {
             return a;
         }
         a += 1;

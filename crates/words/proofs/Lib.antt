@@ -1,3 +1,5 @@
 pub mod Masks
 pub mod Reach
 pub mod Spans
+pub mod Passes
+pub mod Whence

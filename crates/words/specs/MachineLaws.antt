@@ -7,7 +7,7 @@ use native.Mathlib.Nat.{le-of-suc-le-suc, not-suc-le-zero, pow-suc, mod-lt, mul-
 use native.Mathlib.Omega.{arith}
 use lib.Dec.{eqb, leb, ltb, eqb·suc-suc, eqb·zero-suc, eqb·suc-zero, leb·zero, leb·suc-zero, leb·suc-suc, lit<}
 use lib.Pow.{pow-pos, shr-shr, shl-exact, ones-lt}
-use lib.Bits.{bitAnd, bitOr, and-mask, and-shr, and-mod, or-shr, or-mod}
+use lib.Bits.{bitAnd, bitOr, and-mask, and-shr, and-mod, and-le-r, or-shr, or-mod, or-zero-l, or-add-and}
 use borrow.Author.Tests.{lt-ltb, le-ltb}
 use Rattle.theory.specs.Bound.{val}
 use Rattle.theory.specs.BoundLaws.{lt-or-ge}
@@ -35,6 +35,18 @@ bit-or v w b =
     ap (λ (z : ℕ). eqb (z % 2) 1) (or-shr v w b)
     ∙ ap (λ (z : ℕ). eqb z 1) (or-mod (v / 2 ^ b) (w / 2 ^ b) 1)
     ∙ or-digit (v / 2 ^ b % 2) (w / 2 ^ b % 2) (mod-lt (v / 2 ^ b) (lit< tt)) (mod-lt (w / 2 ^ b) (lit< tt))
+
+-- or is 0 only where both are
+
+pos-some : (x : ℕ) → 0 < x → not (eqb x 0) ≡ true
+pos-some zero h = absurd (not-suc-le-zero h)
+pos-some (suc x) h = ap not (eqb·suc-zero x)
+
+pub or-some : (v w : ℕ) → not (eqb (bitOr v w) 0) ≡ (not (eqb v 0) || not (eqb w 0))
+or-some zero w = ap (λ (x : ℕ). not (eqb x 0)) (or-zero-l w)
+or-some (suc v) w =
+    pos-some (bitOr (suc v) w) (omega (arith, or-add-and (suc v) w, and-le-r (suc v) w))
+    ∙ sym (ap (λ (p : Bool). p || not (eqb w 0)) (pos-some (suc v) (omega arith)))
 
 -- the complement in k bits
 

@@ -1,4 +1,7 @@
 // One row of 32 bits: tested, changed, narrowed, spanned and counted.
+mod turn;
+
+pub use turn::turned;
 ghost use mathlib.Core.Path.{_≡_};
 ghost use mathlib.Core.Bool.{_&&_, _||_, not};
 ghost use Prim.Native.Nat.{_<_};

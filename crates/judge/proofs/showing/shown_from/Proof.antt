@@ -2,6 +2,7 @@
 use borrow.Author.Needs.{needs}
 use mathlib.Core.Path.{sym, _∙_}
 use mathlib.Core.Bool.{true, false}
+use native.Mathlib.Omega.{arith}
 use Rattle.table.specs.ShapeLaws.{check-sizes}
 use Rattle.table.specs.AnswerLaws.{told-refused, told-good}
 use Rattle.judge.specs.Asked.{afterShow, showSays}
@@ -55,7 +56,10 @@ cell-start-requires c κs =
     (told-good (check-sizes _) (e .before .before .sized .ensures) (e .enum-told .given .1) .few, c .before .if3 .left, c .if4 .left)
 
 holds-none-requires : tie.Need-holds-none-requires
-holds-none-requires c κs = search needs
+holds-none-requires c κs =
+    let d = c .before in
+    let long = d .before .before .before .if1 .left ∙ d .before .before .before .before .table-length .ensures in
+    omega (arith, d .before .before .if2 .left ∙ long)
 
 returns-6 : tie.Need-returns-6
 returns-6 c =
