@@ -1,5 +1,5 @@
 -- What a date text says becomes what its record says.
-use mathlib.Core.Path.{_≡_, refl, sym, ap, _∙_, subst}
+use mathlib.Core.Path.{_≡_, sym, ap, _∙_, subst}
 use mathlib.Core.Logic.{_⊎_, inl, inr}
 use mathlib.Core.Bool.{Bool}
 use mathlib.Core.List.{List, [], _∷_, _++_}
@@ -18,7 +18,7 @@ use Rattle.calendar.specs.DateAnswers.{datesMost, saidDate, dateSays, ReadsDate
 use Rattle.calendar.specs.DateAnswersLaws.{reads-days, reads-refused}
 use Rattle.calendar.specs.declared.DateRead.{DateRead}
 use Rattle.calendar.specs.declared.DateAnswer.the-variants.{Days, Refused}
-use Rattle.scan.specs.Sheet.{Step, more, stop, field, dateAt}
+use Rattle.scan.specs.Sheet.{more, stop, field, dateAt}
 use Rattle.scan.specs.Judging.{ReadsField}
 use Rattle.scan.specs.declared.field.FieldRead.{FieldRead}
 use Rattle.scan.specs.declared.step.Verdict.the-variants.{Field}

@@ -2,16 +2,15 @@
 use mathlib.Core.Path.{_≡_, refl, sym, ap, _∙_}
 use mathlib.Core.Bool.{true, false}
 use mathlib.Core.List.{List, [], _∷_, _++_, append-assoc}
-use Prim.Native.Nat.{ℕ, zero, suc, _+_, _-_, _*_, _≤_, _<_}
+use Prim.Native.Nat.{ℕ, zero, suc, _+_, _-_, _≤_, _<_}
 use native.Mathlib.Nat.{sub-zero, zero-add, zero-sub, suc-sub-suc}
 use native.Mathlib.Numerals.{add-one}
 use native.Mathlib.Omega.{arith}
-use lib.Dec.{T, le→leb, leb→le}
+use lib.Dec.{le→leb, leb→le}
 use lib.ListN.{length, getD, set, take, drop, replicate, length-append, length-replicate, replicate-append-replicate, drop-of-length-le}
 use lib.Seq.{paste, paste-suc, take-all, length-take-le, drop-cons, take-at}
 use borrow.Author.Tests.{lt-ltb, le-ltb}
 use Rattle.theory.specs.Limits.{readingsMost}
-use Rattle.theory.specs.Bound.{all}
 use Rattle.theory.specs.BoundLaws.{T-ext, all-i, all-e}
 use Rattle.calendar.specs.Calendar.{lastDay}
 use Rattle.calendar.specs.Ascending.{ascending, risesFrom}

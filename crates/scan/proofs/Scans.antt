@@ -1,22 +1,21 @@
 -- The judge pass: at each turn its state is what the records so far have said, and the scan goes on from there.
-use mathlib.Core.Path.{_≡_, refl, sym, ap, _∙_, subst}
+use mathlib.Core.Path.{_≡_, refl, sym, ap, _∙_}
 use mathlib.Core.Bool.{Bool, true, false}
-use mathlib.Core.List.{List, [], _∷_, _++_, map}
-use Prim.Native.Nat.{ℕ, zero, suc, _+_, _-_, _≤_, _<_}
+use mathlib.Core.List.{List, [], _∷_, _++_}
+use Prim.Native.Nat.{ℕ, _+_, _-_, _≤_, _<_}
 use native.Mathlib.Numerals.{add-one}
 use native.Mathlib.Omega.{arith}
 use lib.ListN.{length, set, take, replicate, length-set, length-map}
 use lib.Seq.{length-take-le, take-suc-set}
-use Rattle.refusal.specs.Said.{Said, says, refused}
-use Rattle.refusal.specs.declared.Refusal.{Refusal}
+use Rattle.refusal.specs.Said.{Said, says}
 use Rattle.theory.specs.Limits.{fieldsMost}
-use Rattle.scan.specs.Sheet.{Record, field, gap, strike, fieldsOf, Told, told, Step, more, done, stop, dateAt, daysAt, byMark, numberAt, markOf, stepAt, Scanned, whole, faulty, scan}
+use Rattle.scan.specs.Sheet.{Record, field, gap, strike, fieldsOf, Told, told, Step, more, done, stop, dateAt, daysAt, byMark, numberAt, markOf, stepAt, scan}
 use Rattle.scan.specs.RecordLaws.{isPair, told-field, told-pair, told-sizes}
 use Rattle.scan.specs.declared.mark.Mark.{Mark}
 use Rattle.scan.specs.declared.mark.Mark.the-variants.{Date, Days, Gap, Strike, End, Unknown}
 use Rattle.scan.specs.SheetLaws.{adds-more, gap-stands, strike-stands, end-no-more, step-more, step-forward, scanOn, scan-on, scan-more, scan-done, scan-stop}
 use Rattle.scan.specs.Answer.{scanSays}
-use Rattle.scan.specs.Judging.{Gist, adds, rules, ends, stops, gist}
+use Rattle.scan.specs.Judging.{adds, rules, ends, stops, gist}
 
 -- what a step is, by its gist
 

@@ -10,7 +10,7 @@ use Rattle.theory.specs.Limits.{fieldsMost, readingsMost}
 use Rattle.calendar.specs.Ascending.{ascending}
 use Rattle.calendar.specs.DateAnswers.{padded}
 use Rattle.table.specs.Layout.{tabulate}
-use Rattle.scan.specs.Sheet.{byteAt, numberAt, raised, Told, Step, more, stop, field, adds, markOf, byMark, stepAt, early, daysAt, gapRight, gapAt, strikeRight, strikeAt, endAt}
+use Rattle.scan.specs.Sheet.{byteAt, numberAt, Told, Step, more, stop, field, adds, markOf, byMark, stepAt, early, daysAt, gapRight, gapAt, strikeRight, strikeAt, endAt}
 use Rattle.scan.specs.Judging.{Gist, rules, ends, stops, gist, ReadsField, ReadsInterval, ReadsPair}
 use Rattle.scan.specs.declared.mark.Mark.{Mark}
 use Rattle.scan.specs.declared.field.FieldRead.{FieldRead}

@@ -7,7 +7,7 @@ use lib.ListN.{length}
 use Rattle.refusal.specs.Said.{Said, refused}
 use Rattle.theory.specs.Limits.{readingsMost}
 use Rattle.calendar.specs.DateAnswers.{padded}
-use Rattle.scan.specs.Sheet.{byteAt, numberAt, raised, Record, field, gap, strike, Step, more, done, stop, dateAt, daysAt}
+use Rattle.scan.specs.Sheet.{byteAt, numberAt, raised, field, gap, strike, Step, more, done, stop, dateAt, daysAt}
 use Rattle.scan.specs.declared.mark.Mark.{Mark}
 use Rattle.scan.specs.declared.mark.Mark.the-variants.{Date, Days, Gap, Strike, Unknown}
 use Rattle.scan.specs.declared.field.FieldRead.{FieldRead}

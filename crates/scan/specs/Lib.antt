@@ -1,7 +1,9 @@
 pub mod Sheet
 pub mod RecordLaws
 pub mod SheetLaws
+pub mod FaultLaws
 pub mod WholeLaws
 pub mod Answer
+pub mod AnswerLaws
 pub mod FillLaws
 pub mod Judging

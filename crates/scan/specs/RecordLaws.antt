@@ -4,7 +4,7 @@ use mathlib.Core.Bool.{Bool, true, false}
 use mathlib.Core.List.{List, [], _∷_, _++_, map}
 use Prim.Native.Nat.{ℕ}
 use lib.ListN.{length}
-use Rattle.scan.specs.Sheet.{Record, field, gap, strike, fieldsOf, anyPair, Told, told}
+use Rattle.scan.specs.Sheet.{Record, field, gap, strike, fieldsOf, anyPair, told}
 
 -- a record adds no field: a GP or PR
 abbrev pub isPair : Record → Bool

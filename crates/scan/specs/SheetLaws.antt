@@ -1,22 +1,22 @@
 -- What stands at an offset, by inversion; the scan step by step, without counting; the records before an offset.
 use mathlib.Core.Path.{_≡_, refl, sym, ap, _∙_}
 use mathlib.Core.Logic.{_⊎_, inl, inr}
-use mathlib.Core.Bool.{Bool, true, false, cond, not, _&&_, _||_}
-use mathlib.Core.List.{List, [], _∷_, _++_, map, append-assoc}
+use mathlib.Core.Bool.{Bool, true, false, cond, not, _&&_}
+use mathlib.Core.List.{List, [], _∷_, _++_}
 use Prim.Native.Nat.{ℕ, zero, suc, _+_, _-_, _*_, _≤_, _<_}
 use native.Mathlib.Omega.{arith}
-use lib.Dec.{T, leb, ltb, eqb, eqb·suc-zero}
-use lib.ListN.{length, getD, take, drop}
-use borrow.Author.Tests.{not-true, ltb-true, leb-true, eq-eqb, ne-eqb, eqb-false}
+use lib.Dec.{leb, ltb, eqb, eqb·suc-zero}
+use lib.ListN.{length, take, drop}
+use borrow.Author.Tests.{not-true, ltb-true, leb-true, eq-eqb, ne-eqb}
 use Rattle.refusal.specs.Said.{Said, says}
 use Rattle.theory.specs.Limits.{fieldsMost, readingsMost}
 use Rattle.calendar.specs.Ascending.{ascending}
-use Rattle.calendar.specs.DateText.{means}
-use Rattle.calendar.specs.DateAnswers.{dateSays}
+use Rattle.calendar.specs.DateText.{shapedDate, means}
+use Rattle.calendar.specs.DateAnswers.{daysSay, dateSays}
 use Rattle.table.specs.Layout.{tabulate}
 use Rattle.scan.specs.declared.mark.Mark.{Mark}
 use Rattle.scan.specs.declared.mark.Mark.the-variants.{Date, Days, Gap, Strike, End, Unknown}
-use Rattle.scan.specs.Sheet.{byteAt, numberAt, raised, Record, field, gap, strike, fieldsOf, anyPair, Told, told, Step, more, done, stop, check, adds, early, dateAt, daysAt, gapRight, gapAt, strikeRight, strikeAt, endAt, markOf, byMark, stepAt, Scanned, whole, faulty, onward, scanFrom, scan, beyond, beforeFrom, before, stepOf}
+use Rattle.scan.specs.Sheet.{byteAt, numberAt, raised, Record, field, gap, strike, Told, told, Step, more, done, stop, check, adds, early, dateAt, daysAt, gapRight, gapAt, strikeRight, strikeAt, endAt, markOf, byMark, stepAt, Scanned, whole, faulty, onward, scanFrom, scan, beyond, beforeFrom, before, stepOf}
 
 -- checks
 
@@ -210,96 +210,122 @@ step-forward sep t s at r n e = go (markOf (numberAt s at)) (step-more sep t s a
     go End f = absurd (end-no-more (t .sizes) s at r n f)
     go Unknown f = absurd (let z : _≡_ {A = ℕ} 0 1 = cc f in omega arith)
 
--- a refusal's number is not 0, so that none is taken for a result
+-- a fault's number is 1 or comes after 14, so that none is taken for a result or for a check before the scan
 
--- if the step stops, then with a number that is not 0
-abbrev Numbered : Step → Type 0
-Numbered x = (q : Said) → x ≡ stop q → 1 ≤ q .state
+-- a fault at an offset: its number, and the offset for a place or none
+pub record Fault (at : ℕ) (q : Said) : Type 0 where
+  pub number : (q .state ≡ 1) ⊎ (15 ≤ q .state)
+  pub most : q .state ≤ 23
+  pub place : (q .values ≡ []) ⊎ (q .values ≡ at ∷ [])
 
-numbered-more : (r : Record) (n : ℕ) → Numbered (more r n)
-numbered-more r n q e = absurd (let z : _≡_ {A = ℕ} 0 1 = cc e in omega arith)
+-- if the step stops, then at such a fault
+abbrev Faults : ℕ → Step → Type 0
+Faults at x = (q : Said) → x ≡ stop q → Fault at q
 
-numbered-done : Numbered done
-numbered-done q e = absurd (let z : _≡_ {A = ℕ} 0 1 = cc e in omega arith)
+faults-more : (at : ℕ) (r : Record) (n : ℕ) → Faults at (more r n)
+faults-more at r n q e = absurd (let z : _≡_ {A = ℕ} 0 1 = cc e in omega arith)
 
-numbered-stop : (k : ℕ) (v : List ℕ) → 1 ≤ k → Numbered (stop (says k v))
-numbered-stop k v h q e = let g : says k v ≡ q = cc e in rw (← g) h
+faults-done : (at : ℕ) → Faults at done
+faults-done at q e = absurd (let z : _≡_ {A = ℕ} 0 1 = cc e in omega arith)
 
-numbered-check : (b : Bool) (k at : ℕ) (x : Step) → 1 ≤ k → Numbered x → Numbered (check b k at x)
-numbered-check true k at x h f = f
-numbered-check false k at x h f = numbered-stop k (at ∷ []) h
+fault-here : (k at : ℕ) → 15 ≤ k → k ≤ 23 → Fault at (says k (at ∷ []))
+fault-here k at h l = record { number = inr h; most = l; place = inr refl }
+
+faults-stop : (at : ℕ) (p : Said) → Fault at p → Faults at (stop p)
+faults-stop at p f q e = let g : p ≡ q = cc e in rw (← g) f
+
+faults-check : (b : Bool) (k at : ℕ) (x : Step) → 15 ≤ k → k ≤ 23 → Faults at x → Faults at (check b k at x)
+faults-check true k at x h l f = f
+faults-check false k at x h l f = faults-stop at (says k (at ∷ [])) (fault-here k at h l)
+
+-- a date text is refused with 19 or 20
+date-number : (sep : ℕ → Bool) (text : List ℕ) → (dateSays sep text .state ≡ 0) ⊎ (15 ≤ dateSays sep text .state) × (dateSays sep text .state ≤ 23)
+unfolding dateSays
+date-number sep text = go (shapedDate sep text) (means sep text)
+  where
+    go : (b : Bool) (l : List ℕ) → (cond b (daysSay l) (says 19 []) .state ≡ 0) ⊎ (15 ≤ cond b (daysSay l) (says 19 []) .state) × (cond b (daysSay l) (says 19 []) .state ≤ 23)
+    go true [] = inr (omega arith, omega arith)
+    go true (x ∷ l) = inl refl
+    go false l = inr (omega arith, omega arith)
 
 module _ (sep : ℕ → Bool) (t : Told) (s : List ℕ) (at : ℕ) where
-  numbered-adds : (x : Step) → Numbered x → Numbered (adds t at x)
-  numbered-adds x f =
-      numbered-check (not (t .late)) 17 at _ (omega arith)
-      (numbered-check (ltb (length (t .sizes)) fieldsMost) 18 at x (omega arith) f)
+  faults-adds : (x : Step) → Faults at x → Faults at (adds t at x)
+  faults-adds x f =
+      faults-check (not (t .late)) 17 at _ (omega arith) (omega arith)
+      (faults-check (ltb (length (t .sizes)) fieldsMost) 18 at x (omega arith) (omega arith) f)
 
-  numbered-text : (k : ℕ) (r : Record) (n : ℕ) → Numbered (cond (eqb k 0) (more r n) (stop (says k (at ∷ []))))
-  numbered-text zero r n = numbered-more r n
-  numbered-text (suc k) r n = rw (eqb·suc-zero k) (numbered-stop (suc k) (at ∷ []) (omega arith))
+  faults-text : (k : ℕ) (r : Record) (n : ℕ) → (k ≡ 0) ⊎ (15 ≤ k) × (k ≤ 23) → Faults at (cond (eqb k 0) (more r n) (stop (says k (at ∷ []))))
+  faults-text zero r n h = faults-more at r n
+  faults-text (suc k) r n (inl h) = absurd (omega arith)
+  faults-text (suc k) r n (inr h) = rw (eqb·suc-zero k) (faults-stop at (says (suc k) (at ∷ [])) (fault-here (suc k) at (h .0) (h .1)))
 
-  numbered-date : Numbered (dateAt sep s at)
+  faults-date : Faults at (dateAt sep s at)
   unfolding dateAt
-  numbered-date =
+  faults-date =
       let text = take 10 (drop (at + 2) s) in
-      numbered-check (leb (at + 12) (length s)) 15 at _ (omega arith)
-      (numbered-text (dateSays sep text .state) (field (means sep text)) (at + 12))
+      faults-check (leb (at + 12) (length s)) 15 at _ (omega arith) (omega arith)
+      (faults-text (dateSays sep text .state) (field (means sep text)) (at + 12) (date-number sep text))
 
-  numbered-days : Numbered (daysAt s at)
+  faults-days : Faults at (daysAt s at)
   unfolding daysAt
-  numbered-days =
+  faults-days =
       let k = byteAt s (at + 2) in
       let l = tabulate k (λ p. numberAt s (at + 3 + 2 * p)) in
-      numbered-check (leb (at + 3) (length s)) 15 at _ (omega arith)
-      (numbered-check (leb 1 k && leb k readingsMost) 21 at _ (omega arith)
-      (numbered-check (leb (at + 3 + 2 * k) (length s)) 15 at _ (omega arith)
-      (numbered-check (ascending l && early l) 21 at _ (omega arith)
-      (numbered-more (field l) (at + 3 + 2 * k)))))
+      faults-check (leb (at + 3) (length s)) 15 at _ (omega arith) (omega arith)
+      (faults-check (leb 1 k && leb k readingsMost) 21 at _ (omega arith) (omega arith)
+      (faults-check (leb (at + 3 + 2 * k) (length s)) 15 at _ (omega arith) (omega arith)
+      (faults-check (ascending l && early l) 21 at _ (omega arith) (omega arith)
+      (faults-more at (field l) (at + 3 + 2 * k)))))
 
-  numbered-gap : Numbered (gapAt (t .sizes) s at)
+  faults-gap : Faults at (gapAt (t .sizes) s at)
   unfolding gapAt
-  numbered-gap =
+  faults-gap =
       let i = byteAt s (at + 2) in
       let j = byteAt s (at + 3) in
       let lo = raised (numberAt s (at + 4)) in
       let hi = raised (numberAt s (at + 6)) in
-      numbered-check (leb (at + 8) (length s)) 15 at _ (omega arith)
-      (numbered-check (gapRight (t .sizes) i j lo hi) 22 at _ (omega arith)
-      (numbered-more (gap i j lo hi) (at + 8)))
+      faults-check (leb (at + 8) (length s)) 15 at _ (omega arith) (omega arith)
+      (faults-check (gapRight (t .sizes) i j lo hi) 22 at _ (omega arith) (omega arith)
+      (faults-more at (gap i j lo hi) (at + 8)))
 
-  numbered-strike : Numbered (strikeAt (t .sizes) s at)
+  faults-strike : Faults at (strikeAt (t .sizes) s at)
   unfolding strikeAt
-  numbered-strike =
+  faults-strike =
       let i = byteAt s (at + 2) in
       let j = byteAt s (at + 3) in
       let a = byteAt s (at + 4) in
       let b = byteAt s (at + 5) in
-      numbered-check (leb (at + 6) (length s)) 15 at _ (omega arith)
-      (numbered-check (strikeRight (t .sizes) i j a b) 22 at _ (omega arith)
-      (numbered-more (strike i j a b) (at + 6)))
+      faults-check (leb (at + 6) (length s)) 15 at _ (omega arith) (omega arith)
+      (faults-check (strikeRight (t .sizes) i j a b) 22 at _ (omega arith) (omega arith)
+      (faults-more at (strike i j a b) (at + 6)))
 
-  numbered-end : Numbered (endAt (t .sizes) s at)
+  faults-end : Faults at (endAt (t .sizes) s at)
   unfolding endAt
-  numbered-end = go (ltb 0 (length (t .sizes)))
+  faults-end = go (ltb 0 (length (t .sizes)))
     where
-      go : (b : Bool) → Numbered (cond b (check (eqb (length s) (at + 2)) 23 at done) (stop (says 1 [])))
-      go true = numbered-check (eqb (length s) (at + 2)) 23 at done (omega arith) numbered-done
-      go false = numbered-stop 1 [] (omega arith)
+      go : (b : Bool) → Faults at (cond b (check (eqb (length s) (at + 2)) 23 at done) (stop (says 1 [])))
+      go true = faults-check (eqb (length s) (at + 2)) 23 at done (omega arith) (omega arith) (faults-done at)
+      go false = faults-stop at (says 1 []) (record { number = inl refl; most = omega arith; place = inl refl })
 
-  numbered-mark : (m : Mark) → Numbered (byMark sep m t s at)
-  numbered-mark Date = numbered-adds (dateAt sep s at) numbered-date
-  numbered-mark Days = numbered-adds (daysAt s at) numbered-days
-  numbered-mark Gap = numbered-gap
-  numbered-mark Strike = numbered-strike
-  numbered-mark End = numbered-end
-  numbered-mark Unknown = numbered-stop 16 (at ∷ []) (omega arith)
+  faults-mark : (m : Mark) → Faults at (byMark sep m t s at)
+  faults-mark Date = faults-adds (dateAt sep s at) faults-date
+  faults-mark Days = faults-adds (daysAt s at) faults-days
+  faults-mark Gap = faults-gap
+  faults-mark Strike = faults-strike
+  faults-mark End = faults-end
+  faults-mark Unknown = faults-stop at (says 16 (at ∷ [])) (fault-here 16 at (omega arith) (omega arith))
+
+  pub step-fault : Faults at (stepAt sep t s at)
+  unfolding stepAt
+  step-fault =
+      faults-check (leb (at + 2) (length s)) 15 at (byMark sep (markOf (numberAt s at)) t s at) (omega arith) (omega arith)
+      (faults-mark (markOf (numberAt s at)))
+
+  pub step-number : (q : Said) → stepAt sep t s at ≡ stop q → (q .state ≡ 1) ⊎ (15 ≤ q .state)
+  step-number q e = step-fault q e .number
 
   pub step-stop : (q : Said) → stepAt sep t s at ≡ stop q → 1 ≤ q .state
-  unfolding stepAt
-  step-stop =
-      numbered-check (leb (at + 2) (length s)) 15 at (byMark sep (markOf (numberAt s at)) t s at) (omega arith)
-      (numbered-mark (markOf (numberAt s at)))
+  step-stop q e = elim (step-number q e) [ inl h ↦ omega arith | inr h ↦ omega arith ]
 
 -- the scan
 

@@ -1,16 +1,16 @@
 -- What the records of a whole sheet are: 1 to 16 fields, each with 1 to 32 days that rise and are not over the last.
-use mathlib.Core.Path.{_≡_, refl, sym, ap, _∙_, subst}
-use mathlib.Core.Logic.{_⊎_, inl, inr}
+use mathlib.Core.Path.{_≡_, refl, sym, ap, _∙_}
+use mathlib.Core.Logic.{inl, inr}
 use mathlib.Core.Bool.{Bool, true, false, cond}
-use mathlib.Core.List.{List, [], _∷_, _++_, map, List·Memᴰ, List·Memᴰ·head, List·Memᴰ·tail}
+use mathlib.Core.List.{List, [], _∷_, _++_, List·Memᴰ, List·Memᴰ·head, List·Memᴰ·tail}
 use Prim.Native.Nat.{ℕ, zero, suc, _+_, _-_, _≤_, _<_}
 use native.Mathlib.Omega.{arith}
 use lib.Dec.{T, le→leb}
 use lib.ListN.{length, getD, take, drop, length-append, List·getD-append, length-map}
 use lib.Seq.{getD-append-seam}
-use Rattle.refusal.specs.Said.{Said, says}
+use Rattle.refusal.specs.Said.{says}
 use Rattle.theory.specs.Limits.{fieldsMost, readingsMost}
-use Rattle.theory.specs.BoundLaws.{all-i, lt-or-ge, below-suc}
+use Rattle.theory.specs.BoundLaws.{all-i, lt-or-ge}
 use Rattle.calendar.specs.Calendar.{lastDay}
 use Rattle.calendar.specs.Ascending.{ascending}
 use Rattle.calendar.specs.DateText.{shapedDate, means}
@@ -20,9 +20,9 @@ use Rattle.calendar.specs.DateAnswersLaws.{means-within}
 use Rattle.table.specs.LayoutLaws.{length-tabulate}
 use Rattle.scan.specs.declared.mark.Mark.{Mark}
 use Rattle.scan.specs.declared.mark.Mark.the-variants.{Date, Days, Gap, Strike, End, Unknown}
-use Rattle.scan.specs.Sheet.{numberAt, Record, field, gap, strike, fieldsOf, anyPair, Told, told, Step, more, done, stop, check, adds, early, dateAt, daysAt, gapAt, strikeAt, endAt, markOf, byMark, stepAt, Scanned, whole, faulty, onward, scanFrom, scan}
-use Rattle.scan.specs.RecordLaws.{isPair, fields-field, fields-pair, late-field, late-pair, told-sizes}
-use Rattle.scan.specs.SheetLaws.{date-no-end, days-no-end, gap-no-end, strike-no-end, adds-done, end-some, step-done, date-stands, days-stand, gap-stands, strike-stands, end-no-more, step-more, adds-more, step-forward, scanOn, scan-on, scan-more, scan-done, scan-stop, Going, goes, over, going}
+use Rattle.scan.specs.Sheet.{numberAt, Record, field, gap, strike, fieldsOf, anyPair, Told, told, more, done, adds, early, dateAt, daysAt, markOf, byMark, stepAt, whole, scan}
+use Rattle.scan.specs.RecordLaws.{isPair, fields-field, fields-pair, late-pair, told-sizes}
+use Rattle.scan.specs.SheetLaws.{date-no-end, days-no-end, gap-no-end, strike-no-end, adds-done, end-some, step-done, date-stands, days-stand, gap-stands, strike-stands, end-no-more, step-more, adds-more, step-forward, scanOn, scan-on, Going, goes, over, going}
 
 -- the days of a field
 pub record GoodField (d : List ℕ) : Type 0 where
@@ -204,3 +204,17 @@ module _ (sep : ℕ → Bool) (s : List ℕ) where
       go (goes (gap i j lo hi) n e v) = absurd (not-pair (gap i j lo hi) n refl v)
       go (goes (strike i j a b) n e v) = absurd (not-pair (strike i j a b) n refl v)
       go (over e v) = absurd (let x : length (fieldsOf rs) ≡ length (fieldsOf all) = ap (λ (l : List Record). length (fieldsOf l)) v in omega arith)
+
+  -- once all fields have come, they stay as they are
+  fixed-from : (k : ℕ) (rs : List Record) (at : ℕ) (all : List Record) → length s - at < k → scanOn sep s rs at ≡ whole all → length (fieldsOf rs) ≡ length (fieldsOf all) → fieldsOf all ≡ fieldsOf rs
+  fixed-from zero rs at all h w c = absurd (omega arith)
+  fixed-from (suc k) rs at all h w c = go (going sep s rs at all w) (λ r n m v p. fixed-from k (rs ++ r ∷ []) n all m v p)
+    where
+      go : Going sep s rs at all → ((r : Record) (n : ℕ) → length s - n < k → scanOn sep s (rs ++ r ∷ []) n ≡ whole all → length (fieldsOf (rs ++ r ∷ [])) ≡ length (fieldsOf all) → fieldsOf all ≡ fieldsOf (rs ++ r ∷ [])) → fieldsOf all ≡ fieldsOf rs
+      go (goes (field d) n e v) f = absurd (let p = ap length (fields-field rs d) ∙ length-append (fieldsOf rs) (d ∷ []) in omega (arith, count-grows (rs ++ field d ∷ []) n all v, p))
+      go (goes (gap i j lo hi) n e v) f = let w = step-forward sep (told rs) s at (gap i j lo hi) n e in let q = fields-pair rs (gap i j lo hi) refl in f (gap i j lo hi) n (omega arith) v (ap length q ∙ c) ∙ q
+      go (goes (strike i j a b) n e v) f = let w = step-forward sep (told rs) s at (strike i j a b) n e in let q = fields-pair rs (strike i j a b) refl in f (strike i j a b) n (omega arith) v (ap length q ∙ c) ∙ q
+      go (over e v) f = rw v
+
+  pub fields-fixed : (rs : List Record) (at : ℕ) (all : List Record) → scanOn sep s rs at ≡ whole all → length (fieldsOf rs) ≡ length (fieldsOf all) → fieldsOf all ≡ fieldsOf rs
+  fields-fixed rs at all w c = fixed-from (suc (length s - at)) rs at all (omega arith) w c

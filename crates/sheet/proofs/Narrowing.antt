@@ -1,9 +1,9 @@
 -- Days in order are parted by a bound at one place, and the places move up from row to row.
 use mathlib.Core.Path.{_≡_, refl, sym, ap, _∙_}
 use mathlib.Core.Logic.{_⊎_, inl, inr}
-use mathlib.Core.Bool.{Bool, true, false, _&&_}
+use mathlib.Core.Bool.{Bool, _&&_}
 use mathlib.Core.List.{List}
-use Prim.Native.Nat.{ℕ, suc, _+_, _≤_, _<_}
+use Prim.Native.Nat.{ℕ, _+_, _≤_, _<_}
 use native.Mathlib.Nat.{eq-or-lt-of-le}
 use native.Mathlib.Omega.{arith}
 use lib.Dec.{T, leb, ltb, leb→le, ltb→lt, le→leb, lt→ltb}
@@ -11,13 +11,11 @@ use lib.ListN.{length, getD, set, length-set}
 use lib.Seq.{getD-set-same, getD-set-other}
 use borrow.Author.Count.{below-more}
 use borrow.Author.Tests.{lt-ltb, le-ltb}
-use Rattle.theory.specs.Limits.{readingsMost}
 use Rattle.theory.specs.BoundLaws.{and-i, and-l, and-r, T-ext, lt-or-ge}
-use Rattle.words.specs.Word.{bit, pack}
+use Rattle.words.specs.Word.{bit}
 use Rattle.words.specs.WordLaws.{pack-same}
 use Rattle.calendar.specs.Ascending.{ascending}
 use Rattle.calendar.specs.AscendingLaws.{ascending-places}
-use Rattle.table.specs.Layout.{tabulate}
 use Rattle.table.specs.LayoutLaws.{tabulate-of}
 use Rattle.sheet.specs.Opening.{admits}
 use Rattle.sheet.specs.Writing.{Below, Parts, TwoFields, between, narrowedRow, narrowed}

@@ -1,4 +1,5 @@
 -- The table that a sheet opens, and what reading a sheet leaves in the lent buffers (01, "Dates and sheets").
+use mathlib.Core.Path.{_≡_}
 use mathlib.Core.Bool.{Bool, cond, not, _&&_, _||_}
 use mathlib.Core.List.{List, [], _∷_, _++_, map}
 use Prim.Native.Nat.{ℕ, _+_, _*_}
@@ -11,6 +12,8 @@ use Rattle.theory.specs.Strike.{strike as without, nothing, either}
 use Rattle.calendar.specs.DateAnswers.{padded}
 use Rattle.table.specs.Layout.{tableLength, words, sizeOf}
 use Rattle.table.specs.Strike.{pairAndMirror}
+use Rattle.scan.specs.declared.Opened.{Opened}
+use Rattle.scan.specs.Answer.{saidOpened}
 use Rattle.scan.specs.Sheet.{Record, field, gap, strike, fieldsOf, Scanned, whole, faulty, scan}
 
 -- the table
@@ -107,3 +110,10 @@ reading sep sheet sizes days table =
     (afterScan (scan sep sheet) sizes days table)
     (refuses (says 14 []) sizes days table))
     (refuses (says 13 []) sizes days table)
+
+-- reading ends as it should: the answer, and each lent buffer as it is left
+pub record Reads (o : Outcome) (r : Opened) (sizes days table : List ℕ) : Type 0 where
+  pub answers : saidOpened r ≡ o .said
+  pub leavesSizes : sizes ≡ o .sizes
+  pub leavesDays : days ≡ o .days
+  pub leavesTable : table ≡ o .table

@@ -1,6 +1,5 @@
 -- The numbers written over the first zeros are followed by the rest of them.
 use native.Mathlib.Omega.{arith}
-use lib.ListN.{length, take, replicate}
 use Rattle.theory.specs.Limits.{readingsMost}
 use Rattle.scan.proofs.Days.{length-zeros, padded-over}
 use Rattle.scan.proofs.field.listed.Statement.{statement}

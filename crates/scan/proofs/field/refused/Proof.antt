@@ -1,6 +1,4 @@
 use mathlib.Core.Path.{refl}
-use Rattle.calendar.specs.DateAnswers.{padded}
-use borrow.Author.Needs.{needs}
 use Rattle.scan.proofs.field.refused.Statement.{statement}
 use Rattle.scan.proofs.field.refused.Tie as tie
 use Rattle.scan.proofs.field.refused.Reads as reads

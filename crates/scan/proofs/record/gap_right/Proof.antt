@@ -1,6 +1,5 @@
 use native.Mathlib.Omega.{arith}
 use Rattle.scan.proofs.Rights.{gap-first, gap-second, gap-same, gap-ends}
-use borrow.Author.Needs.{needs}
 use Rattle.scan.proofs.record.gap_right.Statement.{statement}
 use Rattle.scan.proofs.record.gap_right.Tie as tie
 use Rattle.scan.proofs.record.gap_right.Reads as reads

@@ -2,27 +2,19 @@ use Rattle.sheet.proofs.Words.{between-masks}
 use borrow.Author.Needs.{needs}
 use Rattle.sheet.proofs.gap.between.Statement.{statement}
 use Rattle.sheet.proofs.gap.between.Tie as tie
-use Rattle.sheet.proofs.gap.between.Reads as reads
-use Rattle.sheet.proofs.gap.between.Lts as lts
-use Rattle.words.proofs.below.Reads as below-reads
 
--- src/gap.rt:28:22
 cast-below : tie.Need-cast-below
 cast-below c = search needs
 
--- src/gap.rt:28:9
 below-requires : tie.Need-below-requires
 below-requires c κs = search needs
 
--- src/gap.rt:28:49
 cast-below-2 : tie.Need-cast-below-2
 cast-below-2 c = search needs
 
--- src/gap.rt:28:36
 below-requires-2 : tie.Need-below-requires-2
 below-requires-2 c κs = search needs
 
--- src/gap.rt:24:1
 returns : tie.Need-returns
 returns c = between-masks _ _ _ _ _ (c .before .before .fits .w .fits) (c .before .below .ensures) (c .below2 .ensures)
 

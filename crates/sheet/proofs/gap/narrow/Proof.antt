@@ -5,10 +5,6 @@ use Rattle.sheet.proofs.Narrowing.{Narrows, narrows-start, narrows-more
 use borrow.Author.Needs.{needs}
 use Rattle.sheet.proofs.gap.narrow.Statement.{statement}
 use Rattle.sheet.proofs.gap.narrow.Tie as tie
-use Rattle.sheet.proofs.gap.narrow.Reads as reads
-use Rattle.sheet.proofs.gap.narrow.Lts as lts
-use Rattle.sheet.proofs.gap.between.Reads as between-reads
-use Rattle.sheet.proofs.gap.past.Reads as past-reads
 
 abbrev Inv-loop : tie.InvT-loop
 Inv-loop cell₀ first second lo hi from₀ to₀ a₀ cell from to a = Narrows first second lo hi cell₀ cell a from to
@@ -16,79 +12,60 @@ Inv-loop cell₀ first second lo hi from₀ to₀ a₀ cell from to a = Narrows 
 abbrev μ-loop : tie.MeasureT-loop
 μ-loop cell₀ first second lo hi from₀ to₀ a₀ cell from to a = length first - a
 
--- src/gap.rt:40:5
 loop-holds : tie.Need-loop-holds Inv-loop μ-loop
 loop-holds c = narrows-start (c .before .before .before .pre .1) _ _ _
 
--- src/gap.rt:41:19
 mul-day : tie.Need-mul-day Inv-loop μ-loop
 mul-day c = omega (arith, c .before .before .before .before .before .pre .1 .firstFew)
 
--- src/gap.rt:41:19
 shared-slice-read-day : tie.Need-shared-slice-read-day Inv-loop μ-loop
 shared-slice-read-day c = search needs
 
--- src/gap.rt:41:19
 cast-day : tie.Need-cast-day Inv-loop μ-loop
 cast-day c = omega (arith, c .shared-slice-known3 .given (c .before .before .loop .a))
 
--- src/gap.rt:42:35
 add-past : tie.Need-add-past Inv-loop μ-loop
 add-past c = omega (arith, c .shared-slice-known3 .given (c .before .before .loop .a))
 
--- src/gap.rt:42:9
 past-requires : tie.Need-past-requires Inv-loop μ-loop
 past-requires c κs = c .before .before .loop .inv .low (c .before .before .loop .a) (omega arith) (omega arith)
 
--- src/gap.rt:43:31
 add-past-2 : tie.Need-add-past-2 Inv-loop μ-loop
 add-past-2 c = omega (arith, c .before .shared-slice-known3 .given (c .before .before .before .loop .a))
 
--- src/gap.rt:43:31
 add-past-3 : tie.Need-add-past-3 Inv-loop μ-loop
 add-past-3 c = omega (arith, c .before .shared-slice-known3 .given (c .before .before .before .loop .a))
 
--- src/gap.rt:43:9
 past-requires-2 : tie.Need-past-requires-2 Inv-loop μ-loop
 past-requires-2 c κs = c .before .before .before .loop .inv .high (c .before .before .before .loop .a) (omega arith) (omega arith)
 
--- src/gap.rt:44:27
 mul-between : tie.Need-mul-between Inv-loop μ-loop
 mul-between c = omega (arith, c .before .before .before .before .loop .inv .two)
 
--- src/gap.rt:44:27
 slice-read-between : tie.Need-slice-read-between Inv-loop μ-loop
 slice-read-between c = omega (arith, c .before .before .before .before .before .loop .inv .two)
 
--- src/gap.rt:44:19
 between-requires : tie.Need-between-requires Inv-loop μ-loop
 between-requires c κs = omega (arith, c .before .before .past .ensures .within, c .before .past2 .ensures .within, c .before .before .before .before .before .loop .inv .two)
 
--- src/gap.rt:44:9
 mul-cell : tie.Need-mul-cell Inv-loop μ-loop
 mul-cell c = omega (arith, c .before .before .before .before .before .before .loop .inv .two)
 
--- src/gap.rt:44:9
 slice-write-cell : tie.Need-slice-write-cell Inv-loop μ-loop
 slice-write-cell c = omega (arith, c .before .before .before .before .before .before .loop .inv .two)
 
--- src/gap.rt:45:9
 add-a : tie.Need-add-a Inv-loop μ-loop
 add-a c = search needs
 
--- src/gap.rt:40:5
 loop-less : tie.Need-loop-less Inv-loop μ-loop
 loop-less c = search needs
 
--- src/gap.rt:40:5
 loop-again : tie.Need-loop-again Inv-loop μ-loop
 loop-again c = narrows-more (c .before .before .before .before .before .before .loop .inv) (omega arith) (omega (arith, c .before .before .before .before .before .before .loop .inv .two)) _ _ _ (c .before .before .before .past .ensures) (c .before .before .past2 .ensures) (c .between .ensures)
 
--- src/gap.rt:33:1
 same-length : tie.Need-same-length Inv-loop μ-loop
 same-length c = c .before .loop .inv .long
 
--- src/gap.rt:33:1
 returns : tie.Need-returns Inv-loop μ-loop
 returns c = narrows-all (c .before .loop .inv) (omega arith)
 
