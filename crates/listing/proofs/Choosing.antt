@@ -27,8 +27,8 @@ use Rattle.choose.specs.declared.Choice.the-variants.{Chosen, Refused}
 use Rattle.choose.specs.Choosing.{choiceOf}
 use Rattle.choose.specs.Answers.{saidChoice, Chooses}
 use Rattle.choose.specs.Theorems.{chosen-passed, never-refuses-free}
-use Rattle.listing.specs.Text.{said, lineFeed, firstLine}
-use Rattle.listing.specs.TextLaws.{first-some}
+use Rattle.text.specs.Text.{said, lineFeed, firstLine}
+use Rattle.text.specs.TextLaws.{first-some}
 use Rattle.listing.specs.ListingLaws.{days-length}
 use Rattle.listing.specs.Listing.{daysOf, brokenPlace, whereWhole, chosenDays, Answered, Ended}
 use Rattle.listing.specs.SameLaws.{days-same}

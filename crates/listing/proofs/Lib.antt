@@ -1,4 +1,3 @@
-mod Printing
 mod Judged
 mod Choosing
 mod Settlements

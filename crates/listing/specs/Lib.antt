@@ -1,9 +1,6 @@
-pub mod Text
 pub mod Listing
-pub mod Writing
-pub mod WritingLaws
-pub mod TextLaws
-pub mod JoinedLaws
 pub mod ListingLaws
 pub mod SameLaws
 pub mod LengthLaws
+pub mod ListedLaws
+pub mod Theorems

@@ -1,22 +1,23 @@
--- What the lister says of a settled table (01, "The sheet lister's output").
-use mathlib.Core.Bool.{cond}
-use mathlib.Core.List.{List, [], _∷_, _++_}
+-- What the lister says of a sheet (01, "The sheet lister's output").
+use mathlib.Core.Bool.{Bool, cond}
+use mathlib.Core.List.{List, [], _∷_, _++_, map}
 use Prim.Native.Nat.{ℕ, _+_, _*_, _≤_, _<_}
-use lib.ListN.{length, getD}
+use lib.Dec.{leb}
+use lib.ListN.{length, getD, take}
 use Rattle.theory.specs.Limits.{fieldsMost, readingsMost}
 use Rattle.theory.specs.Relation.{Rel, Settled, rounds}
 use Rattle.theory.specs.Settling.{steps}
 use Rattle.theory.specs.Reading.{kept, empty}
 use Rattle.theory.specs.Choice.{byNumber, walk}
-use Rattle.refusal.specs.Said.{says}
-use Rattle.table.specs.Layout.{Sized, rel, sizeOf}
+use Rattle.refusal.specs.Said.{says, refused}
+use Rattle.table.specs.Layout.{Sized, tableLength, rel, sizeOf}
 use Rattle.table.specs.Shape.{GoodTable}
 use Rattle.judge.specs.Asked.{atFirstBroken}
-use Rattle.listing.specs.Text.{joined, stateLine, roundsLine, fieldLine, rowsLine, firstLine}
-
--- the day of reading a of field i, where the days of a field stand at 32 times its number
-abbrev pub dayIn : List ℕ → ℕ → ℕ → ℕ
-dayIn days i a = getD days (i * readingsMost + a) 0
+use Rattle.scan.specs.declared.Opened.{Opened}
+use Rattle.scan.specs.declared.Opened.the-variants.{Fields, Refused}
+use Rattle.scan.specs.Sheet.{Record, fieldsOf, Scanned, whole, faulty, scan}
+use Rattle.sheet.specs.Opening.{sheetMost, dayOf, opening}
+use Rattle.text.specs.Text.{joined, stateLine, roundsLine, fieldLine, rowsLine, firstLine}
 
 -- the days of the readings that field i keeps
 unfoldable pub keptDays : Rel → (ℕ → ℕ → ℕ) → ℕ → List ℕ
@@ -55,9 +56,30 @@ openedText n size day R =
     let M = rounds n r R in
     linesOf n r (keptDays M day) (brokenPlace n size M) (chosenDays n size day M)
 
+-- the text of a sheet's records, from its fields and the table that it opens
+unfoldable pub recordsText : List Record → List ℕ
+recordsText rs =
+    let fields = fieldsOf rs in
+    openedText (length fields) (sizeOf (map length fields)) (dayOf fields) (opening fields rs)
+
+-- the text of a sheet that is not too long: of its records, or of the first faulty one
+abbrev pub scannedText : Scanned → List ℕ
+scannedText (whole rs) = recordsText rs
+scannedText (faulty said) = stateLine said
+
+-- the text of a sheet
+unfoldable pub listText : (ℕ → Bool) → List ℕ → List ℕ
+listText sep sheet = cond (leb (length sheet) sheetMost) (scannedText (scan sep sheet)) (stateLine (says 14 []))
+
 -- the text has at most so many bytes: the state, the rounds, each field with its days, the rows, the days chosen
 abbrev pub textMost : ℕ
 textMost = 8 + 14 + fieldsMost * (17 + readingsMost * 6) + 21 + (6 + fieldsMost * 6)
+
+-- what the functions promise one another
+
+-- the day of reading a of field i, where the days of a field stand at 32 times its number
+abbrev pub dayIn : List ℕ → ℕ → ℕ → ℕ
+dayIn days i a = getD days (i * readingsMost + a) 0
 
 -- the lines of a settled table that took r rounds
 abbrev pub settledLines : List ℕ → List ℕ → (ℕ → ℕ → ℕ) → ℕ → List ℕ
@@ -81,3 +103,25 @@ pub record Ended (sizes t days : List ℕ) : Type 0 where
   pub good : GoodTable sizes t
   pub settled : Settled (length sizes) (rel (length sizes) t)
   pub long : length sizes * readingsMost ≤ length days
+
+-- the text of n fields, from the parts of lent buffers that they fill
+abbrev pub filledText : (n : ℕ) (sizes days t : List ℕ) → List ℕ
+filledText n sizes days t = openedText n (sizeOf (take n sizes)) (dayIn days) (rel n (take (tableLength n) t))
+
+-- the text of what reading a sheet answered and left in the lent buffers
+abbrev pub answerText : Opened → (sizes days t : List ℕ) → List ℕ
+answerText (Fields n) sizes days t = filledText n sizes days t
+answerText (Refused r) sizes days t = stateLine (refused r)
+
+-- the parts of lent buffers that n fields fill: sizes and a table of good shape, and the days of the readings
+pub record Filled (n : ℕ) (sizes days t : List ℕ) : Type 0 where
+  pub few : n ≤ fieldsMost
+  pub sizesFit : n ≤ length sizes
+  pub wordsFit : tableLength n ≤ length t
+  pub good : GoodTable (take n sizes) (take (tableLength n) t)
+  pub long : n * readingsMost ≤ length days
+
+-- a refusal fills nothing
+abbrev pub Left : Opened → (sizes days t : List ℕ) → Type 0
+Left (Fields n) sizes days t = Filled n sizes days t
+Left (Refused r) sizes days t = Unit {0}

@@ -10,7 +10,7 @@ use Rattle.theory.specs.Bound.{sum, val, count}
 use Rattle.theory.specs.BoundLaws.{count-last, count-most}
 use Rattle.theory.specs.Relation.{Rel}
 use Rattle.theory.specs.Reading.{kept, keptCount}
-use Rattle.listing.specs.Text.{joined}
+use Rattle.text.specs.Text.{joined}
 use Rattle.listing.specs.Listing.{keptDays, daysOf}
 
 one-or-none : (b : Bool) (v : ℕ) → length (cond b (v ∷ []) []) ≡ val b

@@ -29,7 +29,7 @@ use Rattle.table.specs.CheckLaws.{passed}
 use Rattle.table.specs.Shape.{rowPlace}
 use Rattle.judge.specs.Asked.{brokenRow}
 use Rattle.choose.specs.ChoosingLaws.{check-whole}
-use Rattle.listing.specs.Text.{joined, stateLine, roundsLine, fieldLine, rowsLine, firstLine}
+use Rattle.text.specs.Text.{joined, stateLine, roundsLine, fieldLine, rowsLine, firstLine}
 use Rattle.listing.specs.Listing.{keptDays, daysOf, brokenPlace, whereWhole, chosenDays, linesOf, openedText}
 
 pub joined-same : (k : ℕ) (f g : ℕ → List ℕ) → ((i : ℕ) → i < k → f i ≡ g i) → joined k f ≡ joined k g

@@ -1,8 +1,8 @@
 // The days that are printed, and the lines of the fields.
-use crate::lines::put_line;
-use crate::lines::put_said;
 use table::layout::READINGS_MOST;
 use table::layout::row_word;
+use text::lines::put_line;
+use text::lines::put_said;
 ghost use mathlib.Core.Path.{_≡_};
 ghost use mathlib.Core.Bool.{cond};
 ghost use mathlib.Core.List.{[], _∷_};
@@ -10,9 +10,9 @@ ghost use Prim.Native.Nat.{_<_, _≤_, _+_, _*_};
 ghost use lib.ListN.{length, getD};
 ghost use Rattle.theory.specs.Limits.{readingsMost};
 ghost use Rattle.table.specs.Layout.{rel};
-ghost use Rattle.listing.specs.Text.{joined, fieldLine};
+ghost use Rattle.text.specs.Text.{joined, fieldLine};
 ghost use Rattle.listing.specs.Listing.{dayIn, keptDays, daysOf, Dated, Answered};
-ghost use Rattle.listing.specs.Writing.{Room, Wrote};
+ghost use Rattle.text.specs.Writing.{Room, Wrote};
 
 // The day of reading a of field i.
 fn day(days: &[u16], i: usize, a: usize) -> usize

@@ -1,18 +1,18 @@
 // The line of the first reading.
 use crate::fields::chosen_days;
-use crate::lines::put_line;
 use choose::Choice;
 use choose::FREE;
 use table::FIELDS_MOST;
+use text::lines::put_line;
 ghost use mathlib.Core.List.{_++_};
 ghost use Prim.Native.Nat.{_≤_};
 ghost use lib.ListN.{length};
 ghost use Rattle.theory.specs.Limits.{fieldsMost};
 ghost use Rattle.table.specs.Layout.{rel, sizeOf};
 ghost use Rattle.choose.specs.Choosing.{choiceOf};
-ghost use Rattle.listing.specs.Text.{ascii, numbers, lineFeed, firstLine};
+ghost use Rattle.text.specs.Text.{ascii, numbers, lineFeed, firstLine};
 ghost use Rattle.listing.specs.Listing.{dayIn, daysOf, chosenDays, Answered, Ended};
-ghost use Rattle.listing.specs.Writing.{Room, Wrote};
+ghost use Rattle.text.specs.Writing.{Room, Wrote};
 
 // The days of an answer.
 fn put_chosen(out: &mut [u8], at: usize, answer: &[u8], days: &[u16]) -> usize

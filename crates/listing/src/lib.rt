@@ -1,12 +1,10 @@
 // The text of the sheet lister.
 mod fields;
 mod first;
-mod lines;
-mod refused;
+mod listed;
 mod rows;
 mod settled;
-mod write;
 
-pub use refused::LINE_MOST;
-pub use refused::Line;
-pub use refused::refusal_line;
+pub use listed::Listing;
+pub use listed::TEXT_MOST;
+pub use listed::list_sheet;

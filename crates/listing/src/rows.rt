@@ -1,12 +1,12 @@
 // The line of the rows.
-use crate::lines::put_line;
 use judge::Rows;
+use text::lines::put_line;
 ghost use lib.ListN.{length};
 ghost use Rattle.table.specs.Layout.{rel, sizeOf};
 ghost use Rattle.table.specs.Shape.{GoodTable};
-ghost use Rattle.listing.specs.Text.{rowsLine};
+ghost use Rattle.text.specs.Text.{rowsLine};
 ghost use Rattle.listing.specs.Listing.{brokenPlace};
-ghost use Rattle.listing.specs.Writing.{Room, Wrote};
+ghost use Rattle.text.specs.Writing.{Room, Wrote};
 
 // The first broken row, or that the rows are whole. A table of good shape is not refused.
 pub fn put_rows(out: &mut [u8], at: usize, sizes: &[u8], table: &[u32]) -> usize

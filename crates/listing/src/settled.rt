@@ -1,25 +1,21 @@
 // The text of a table: settled, then line by line.
 use crate::fields::put_fields;
 use crate::first::put_first;
-use crate::lines::put_rounds;
-use crate::lines::put_state;
 use crate::rows::put_rows;
 use settle::Settling;
-use table::FIELDS_MOST;
-use table::READINGS_MOST;
+use sheet::WORDS_MOST;
+use text::lines::put_rounds;
+use text::lines::put_state;
 ghost use Prim.Native.Nat.{_≤_, _*_};
 ghost use lib.ListN.{length};
 ghost use Rattle.theory.specs.Limits.{readingsMost, roundsMost};
 ghost use Rattle.table.specs.Layout.{rel, sizeOf};
 ghost use Rattle.table.specs.Shape.{GoodTable};
 ghost use Rattle.listing.specs.Listing.{textMost, dayIn, settledLines, openedText, Ended};
-ghost use Rattle.listing.specs.Writing.{Wrote};
+ghost use Rattle.text.specs.Writing.{Wrote};
 
 // Settling never takes more rounds.
 const ROUNDS_MOST: u64 = 123392;
-
-// The words of the largest table.
-pub const WORDS_MOST: usize = FIELDS_MOST * FIELDS_MOST * READINGS_MOST;
 
 // The text of a settled table that took r rounds.
 fn put_settled(out: &mut [u8], r: usize, sizes: &[u8], days: &[u16], table: &[u32]) -> usize

@@ -5,7 +5,7 @@ use mathlib.Core.Bool.{Bool, cond}
 use mathlib.Core.Path.{_≡_, sym, ap}
 use Prim.Native.Nat.{ℕ}
 use native.Mathlib.Omega.{arith}
-use Rattle.listing.specs.WritingLaws.{wrote-none, wrote-one, wrote-as, room-as}
+use Rattle.text.specs.WritingLaws.{wrote-none, wrote-one, wrote-as, room-as}
 use Rattle.listing.proofs.fields.add_day.Statement.{statement}
 use Rattle.listing.proofs.fields.add_day.Tie as tie
 

@@ -5,8 +5,8 @@ use mathlib.Core.Path.{ap}
 use Prim.Native.Nat.{ℕ, _-_}
 use native.Mathlib.Omega.{arith}
 use lib.ListN.{length, getD}
-use Rattle.listing.specs.JoinedLaws.{Joining, joining-start, joining-room, joining-more, joining-end}
-use Rattle.listing.specs.WritingLaws.{wrote-one, wrote-length, wrote-as}
+use Rattle.text.specs.JoinedLaws.{Joining, joining-start, joining-room, joining-more, joining-end}
+use Rattle.text.specs.WritingLaws.{wrote-one, wrote-length, wrote-as}
 use Rattle.listing.specs.ListingLaws.{days-length}
 use Rattle.listing.specs.Listing.{dayIn, daysOf}
 use Rattle.listing.proofs.fields.chosen_days.Statement.{statement}

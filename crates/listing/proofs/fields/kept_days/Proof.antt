@@ -9,8 +9,8 @@ use Rattle.theory.specs.Reading.{kept}
 use Rattle.words.specs.Word.{bit}
 use Rattle.table.specs.LayoutLaws.{rel-bit}
 use Rattle.table.specs.Layout.{row, rel}
-use Rattle.listing.specs.JoinedLaws.{Joining, joining-start, joining-room, joining-more, joining-end}
-use Rattle.listing.specs.WritingLaws.{wrote-length, wrote-as, room-as}
+use Rattle.text.specs.JoinedLaws.{Joining, joining-start, joining-room, joining-more, joining-end}
+use Rattle.text.specs.WritingLaws.{wrote-length, wrote-as, room-as}
 use Rattle.listing.specs.ListingLaws.{kept-few}
 use Rattle.listing.specs.Listing.{dayIn, keptDays}
 use Rattle.listing.proofs.fields.kept_days.Statement.{statement}

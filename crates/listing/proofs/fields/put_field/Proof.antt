@@ -3,8 +3,8 @@ use borrow.Author.Needs.{needs}
 use mathlib.Core.Path.{sym, ap}
 use native.Mathlib.Omega.{arith}
 use lib.Seq.{length-take-le}
-use Rattle.listing.specs.WritingLaws.{wrote-within, wrote-taken, wrote-as, room-as}
-use Rattle.listing.specs.Text.{fieldLine}
+use Rattle.text.specs.WritingLaws.{wrote-within, wrote-taken, wrote-as, room-as}
+use Rattle.text.specs.Text.{fieldLine}
 use Rattle.listing.proofs.fields.put_field.Statement.{statement}
 use Rattle.listing.proofs.fields.put_field.Tie as tie
 

@@ -2,10 +2,10 @@
 use borrow.Author.Needs.{needs}
 use Prim.Native.Nat.{_-_}
 use Rattle.table.specs.Layout.{rel}
-use Rattle.listing.specs.JoinedLaws.{Joining, joining-start, joining-room, joining-more, joining-end}
-use Rattle.listing.specs.WritingLaws.{wrote-length}
+use Rattle.text.specs.JoinedLaws.{Joining, joining-start, joining-room, joining-more, joining-end}
+use Rattle.text.specs.WritingLaws.{wrote-length}
 use Rattle.listing.specs.Listing.{dayIn, keptDays}
-use Rattle.listing.specs.Text.{fieldLine}
+use Rattle.text.specs.Text.{fieldLine}
 use Rattle.listing.proofs.fields.put_fields.Statement.{statement}
 use Rattle.listing.proofs.fields.put_fields.Tie as tie
 

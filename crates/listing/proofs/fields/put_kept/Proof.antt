@@ -3,8 +3,8 @@ use borrow.Author.Needs.{needs}
 use mathlib.Core.List.{[], _∷_, _++_}
 use mathlib.Core.Path.{_∙_}
 use lib.ListN.{length}
-use Rattle.listing.specs.WritingLaws.{wrote-then, wrote-length, room-front, room-after}
-use Rattle.listing.specs.Text.{numbers, said, lineFeed, fieldLine}
+use Rattle.text.specs.WritingLaws.{wrote-then, wrote-length, room-front, room-after}
+use Rattle.text.specs.Text.{numbers, said, lineFeed, fieldLine}
 use Rattle.listing.proofs.fields.put_kept.Statement.{statement}
 use Rattle.listing.proofs.fields.put_kept.Tie as tie
 

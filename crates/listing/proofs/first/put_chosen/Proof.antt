@@ -4,8 +4,8 @@ use mathlib.Core.List.{List, _++_}
 use mathlib.Core.Path.{sym, ap}
 use Prim.Native.Nat.{ℕ}
 use lib.Seq.{length-take-le}
-use Rattle.listing.specs.WritingLaws.{wrote-length, wrote-within, wrote-taken, wrote-as, room-as}
-use Rattle.listing.specs.Text.{ascii, numbers, lineFeed}
+use Rattle.text.specs.WritingLaws.{wrote-length, wrote-within, wrote-taken, wrote-as, room-as}
+use Rattle.text.specs.Text.{ascii, numbers, lineFeed}
 use Rattle.listing.proofs.first.put_chosen.Statement.{statement}
 use Rattle.listing.proofs.first.put_chosen.Tie as tie
 

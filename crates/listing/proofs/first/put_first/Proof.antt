@@ -7,8 +7,8 @@ use native.Mathlib.Omega.{arith}
 use lib.ListN.{drop, replicate, length, length-append}
 use lib.Seq.{take-at, length-take-le}
 use Rattle.listing.specs.Listing.{dayIn}
-use Rattle.listing.specs.WritingLaws.{wrote-length, wrote-as, room-as}
-use Rattle.listing.specs.Text.{firstLine}
+use Rattle.text.specs.WritingLaws.{wrote-length, wrote-as, room-as}
+use Rattle.text.specs.Text.{firstLine}
 use Rattle.listing.proofs.Choosing.{all-free, chosen-line, answered, none-chosen}
 use Rattle.listing.proofs.first.put_first.Statement.{statement}
 use Rattle.listing.proofs.first.put_first.Tie as tie

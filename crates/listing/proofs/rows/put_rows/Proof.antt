@@ -1,8 +1,8 @@
 -- `rows::put_rows` meets its contract: judging tells the place that the line names, and refuses no table of good shape.
 use borrow.Author.Needs.{needs}
 use mathlib.Core.Path.{sym, ap}
-use Rattle.listing.specs.WritingLaws.{wrote-length, wrote-as, room-as}
-use Rattle.listing.specs.Text.{rowsLine}
+use Rattle.text.specs.WritingLaws.{wrote-length, wrote-as, room-as}
+use Rattle.text.specs.Text.{rowsLine}
 use Rattle.listing.proofs.Judged.{told-whole, told-broken, never-refused}
 use Rattle.listing.proofs.rows.put_rows.Statement.{statement}
 use Rattle.listing.proofs.rows.put_rows.Tie as tie

@@ -9,7 +9,7 @@ use lib.Seq.{length-take-le}
 use lib.ListN.{length}
 use Rattle.table.specs.Shape.{GoodTable}
 use Rattle.settle.specs.Settle.{GoodLent}
-use Rattle.listing.specs.WritingLaws.{wrote-length, wrote-as}
+use Rattle.text.specs.WritingLaws.{wrote-length, wrote-as}
 use Rattle.listing.specs.Listing.{dayIn}
 use Rattle.listing.proofs.Settlements.{never-unfinished, never-refused, ended, few-rounds, text-left}
 use Rattle.listing.proofs.settled.put_opened.Statement.{statement}

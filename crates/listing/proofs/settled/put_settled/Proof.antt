@@ -8,8 +8,8 @@ use lib.ListN.{length, getD}
 use Rattle.theory.specs.Limits.{roundsMost}
 use Rattle.table.specs.ShapeLaws.{good-sized}
 use Rattle.table.specs.Layout.{rel, sizeOf}
-use Rattle.listing.specs.WritingLaws.{wrote-then, wrote-length, room-front, room-after}
-use Rattle.listing.specs.Writing.{Room}
+use Rattle.text.specs.WritingLaws.{wrote-then, wrote-length, room-front, room-after}
+use Rattle.text.specs.Writing.{Room}
 use Rattle.listing.specs.LengthLaws.{lines-length}
 use Rattle.listing.specs.Listing.{textMost, dayIn, linesOf, settledLines, Ended}
 use Rattle.listing.proofs.settled.put_settled.Statement.{statement}
