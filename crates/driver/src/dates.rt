@@ -1,7 +1,7 @@
 // A date text and what it gives.
-use crate::print;
 use calendar::DATES;
 use calendar::DateAnswer;
+use vectors::print;
 
 pub fn print_date(text: &[u8]) {
     print::text(text);

@@ -2,29 +2,12 @@
 use crate::dates;
 use crate::state;
 use crate::state::Lengths;
-ghost use Prim.Native.Nat.{_≤_};
-ghost use lib.ListN.{length};
-ghost use Rattle.driver.specs.Lines.{Ends};
-
-// Where the line that starts at `from` ends: at a line feed or the text's end.
-fn line_end(text: &[u8], from: usize) -> usize
-    requires { ⌜ from ≤ length (now text) ⌝ }
-    ensures { λ r. ⌜ Ends from r (length (now (text .entry))) ⌝ }
-{
-    let mut i = from;
-    while i < text.len() {
-        if text[i] == b'\n' {
-            return i;
-        }
-        i += 1;
-    }
-    i
-}
+use vectors::file;
 
 fn each_date(text: &[u8]) {
     let mut at = 0;
     while at < text.len() {
-        let end = line_end(text, at);
+        let end = file::line_end(text, at);
         dates::print_date(&text[at..end]);
         at = end + 1;
     }
@@ -44,37 +27,23 @@ fn each_line(
     };
     let mut at = 0;
     while at < text.len() {
-        let end = line_end(text, at);
+        let end = file::line_end(text, at);
         set = state::run_line(&text[at..end], set, sizes, table, opening, scratch);
         at = end + 1;
     }
 }
 
-// The bytes of a file at the start of space; none where it cannot be read, and a word of it.
-fn read_file(path: &[u8], space: &mut [u8]) -> usize
-    ensures { λ r. ⌜ r ≤ length (now (space .exit)) ⌝ }
-{
-    let file = os::open_read(path);
-    if file < 0 {
-        os::fail(path);
-        return 0;
-    }
-    let n = io::read_full(file, space);
-    libc::close(file);
-    n
-}
-
 // Every line of the file is a date text.
 pub fn run_dates(path: &[u8]) {
     let mut space = io::large_buffer();
-    let n = read_file(path, &mut space);
+    let n = file::read_file(path, &mut space);
     each_date(&space[0..n]);
 }
 
 // Every line of the file makes or asks something of sizes and tables.
 pub fn run_script(path: &[u8]) {
     let mut space = io::large_buffer();
-    let n = read_file(path, &mut space);
+    let n = file::read_file(path, &mut space);
     let mut sizes = [0u8; 32];
     let mut table = [0u32; 9248];
     let mut opening = [0u32; 9248];

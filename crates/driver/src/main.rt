@@ -1,11 +1,9 @@
 // Runs the vectors of data/ through the entry points and prints, for each that asks something, the line and what it gives.
-mod asking;
 mod dates;
 mod lines;
 mod making;
-mod print;
-mod script;
 mod state;
+mod verbs;
 
 fn main() {
     lines::run_dates(b"dates");

@@ -1,27 +1,11 @@
 // What a script does to sizes and a table.
-use crate::script::Args;
 use table::FIELDS_MOST;
 use table::READINGS_MOST;
+use vectors::bytes;
+use vectors::line::Args;
 ghost use Prim.Native.Nat.{_<_, _≤_};
 ghost use mathlib.Core.Path.{_≡_};
 ghost use lib.ListN.{length};
-
-pub fn least(a: usize, b: usize) -> usize
-    ensures { λ r. ⌜ (r ≤ a) × (r ≤ b) ⌝ }
-{
-    if a < b { a } else { b }
-}
-
-// The bytes are the numbers of the line.
-pub fn put_bytes(bytes: &mut [u8], args: Args) {
-    let values = args.values;
-    let n = least(bytes.len(), 32);
-    let mut i = 0;
-    while i < n {
-        bytes[i] = (values[i] % 256) as u8;
-        i += 1;
-    }
-}
 
 // No pair is allowed.
 pub fn clear(table: &mut [u32]) {
@@ -110,7 +94,7 @@ pub fn strike(words: &mut [u32], n: usize, args: Args) {
 
 // The opening table is what the table is now.
 pub fn copy(from: &[u32], to: &mut [u32]) {
-    let n = least(from.len(), to.len());
+    let n = bytes::least(from.len(), to.len());
     let mut p = 0;
     while p < n {
         to[p] = from[p];

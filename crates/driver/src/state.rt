@@ -1,25 +1,21 @@
 // What a script has made so far, and one line of it.
-use crate::asking;
 use crate::making;
-use crate::print;
-use crate::script;
-use crate::script::Args;
-use crate::script::Verb;
+use crate::verbs;
+use crate::verbs::Verb;
 use table::FIELDS_MOST;
-ghost use Prim.Native.Nat.{_≤_};
+use vectors::asking;
+use vectors::bytes::field;
+use vectors::bytes::put_bytes;
+use vectors::bytes::within;
+use vectors::line;
+use vectors::line::Args;
+use vectors::print;
 
 // How much of each buffer is set.
 pub struct Lengths {
     pub sizes: usize,
     pub table: usize,
     pub opening: usize,
-}
-
-// A length within a buffer.
-fn within(a: u64, most: usize) -> usize
-    ensures { λ r. ⌜ r ≤ most ⌝ }
-{
-    if a < most as u64 { a as usize } else { most }
 }
 
 // The words of a table of n fields; none where there are too many.
@@ -39,7 +35,7 @@ fn remade(verb: Verb, args: Args, set: Lengths, sizes: &mut [u8], table: &mut [u
     let n = within(set.sizes as u64, sizes.len());
     match verb {
         Verb::Sizes => {
-            making::put_bytes(sizes, args);
+            put_bytes(sizes, args);
             Lengths {
                 sizes: count,
                 table: long,
@@ -76,11 +72,6 @@ fn change(verb: Verb, args: Args, n: usize, table: &mut [u32], opening: &mut [u3
         Verb::Opening => making::copy(table, opening),
         _ => {}
     }
-}
-
-// A number of a line as a field; a larger one is cut, and is no field either way.
-fn field(value: u64) -> usize {
-    within(value, 4294967296)
 }
 
 // A line that asks something of a table as it is.
@@ -121,20 +112,20 @@ fn asks(verb: Verb) -> bool {
 
 // One line: it makes, changes or asks, and what asks is printed with its answer; how much is set after it.
 pub fn run_line(
-    line: &[u8],
+    text: &[u8],
     set: Lengths,
     sizes: &mut [u8],
     table: &mut [u32],
     opening: &mut [u32],
     scratch: &mut [u32],
 ) -> Lengths {
-    let verb = script::verb_of(line);
-    let args = script::numbers(line);
+    let verb = verbs::verb_of(text);
+    let args = line::numbers(text);
     let n = within(set.sizes as u64, sizes.len());
     let long = within(set.table as u64, table.len());
     let kept = within(set.opening as u64, opening.len());
     if asks(verb) {
-        print::text(line);
+        print::text(text);
         print::text(b":");
         if let Verb::Settle = verb {
             settle(args, &sizes[0..n], &mut table[0..long], scratch);
