@@ -10,6 +10,22 @@ pub const LENT_SIZES: usize = FIELDS;
 pub const LENT_DAYS: usize = FIELDS * READINGS;
 pub const LENT_WORDS: usize = FIELDS * FIELDS * READINGS;
 
+/// The checks 13 and 14.
+pub fn check_lengths(
+    sheet: &[u8],
+    sizes: &[u8],
+    days: &[u16],
+    words: &[u32],
+) -> Result<(), Refusal> {
+    if sizes.len() < LENT_SIZES || days.len() < LENT_DAYS || words.len() < LENT_WORDS {
+        return Err(Refusal::bare(13));
+    }
+    if sheet.len() > SHEET_BYTES {
+        return Err(Refusal::bare(14));
+    }
+    Ok(())
+}
+
 /// Reads a sheet and answers the number of fields. Nothing is written until
 /// the whole sheet has been found good.
 pub fn read(
@@ -18,12 +34,7 @@ pub fn read(
     days: &mut [u16],
     words: &mut [u32],
 ) -> Result<usize, Refusal> {
-    if sizes.len() < LENT_SIZES || days.len() < LENT_DAYS || words.len() < LENT_WORDS {
-        return Err(Refusal::bare(13));
-    }
-    if sheet.len() > SHEET_BYTES {
-        return Err(Refusal::bare(14));
-    }
+    check_lengths(sheet, sizes, days, words)?;
     let content = Content::parse(sheet)?;
     content.write(sizes, days, words);
     Ok(content.fields.len())

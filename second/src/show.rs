@@ -11,14 +11,15 @@ pub struct Shown {
     pub first_word: usize,
 }
 
-/// The checks 1, 2, 3 and 24; the bits themselves are not judged.
-pub fn show(
+/// Where the words of a cell begin, after the checks 1, 2, 3 and 24; the bits
+/// themselves are not judged.
+pub fn first_word(
     sizes: &[u8],
     opening: &[u32],
     settled: &[u32],
     i: usize,
     j: usize,
-) -> Result<Shown, Refusal> {
+) -> Result<usize, Refusal> {
     check_sizes(sizes)?;
     check_length(sizes, opening)?;
     check_length(sizes, settled)?;
@@ -26,6 +27,17 @@ pub fn show(
     if i >= n || j >= n {
         return Err(Refusal::bare(24));
     }
+    Ok((i * n + j) * READINGS)
+}
+
+pub fn show(
+    sizes: &[u8],
+    opening: &[u32],
+    settled: &[u32],
+    i: usize,
+    j: usize,
+) -> Result<Shown, Refusal> {
+    let first_word = first_word(sizes, opening, settled, i, j)?;
     let from_opening = settled.iter().all(|&word| word == 0);
-    Ok(Shown { from_opening, first_word: (i * n + j) * READINGS })
+    Ok(Shown { from_opening, first_word })
 }

@@ -7,7 +7,7 @@ use native.Mathlib.Nat.{sub-zero, zero-add, zero-sub, suc-sub-suc}
 use native.Mathlib.Numerals.{add-one}
 use native.Mathlib.Omega.{arith}
 use lib.Dec.{le→leb, leb→le}
-use lib.ListN.{length, getD, set, take, drop, replicate, length-append, length-replicate, replicate-append-replicate, drop-of-length-le}
+use lib.ListN.{length, getD, set, take, drop, replicate, length-replicate, replicate-append-replicate, drop-of-length-le}
 use lib.Seq.{paste, paste-suc, take-all, length-take-le, drop-cons, take-at}
 use borrow.Author.Tests.{lt-ltb, le-ltb}
 use Rattle.theory.specs.Limits.{readingsMost}
@@ -62,9 +62,6 @@ pub widening-all : (days wide : List ℕ) (k : ℕ) → length days ≡ datesMos
 widening-all days wide k e i h =
     let d : k ≡ datesMost = omega (arith, i .few) in
     i .so-far ∙ rw (d, take-all datesMost days (omega arith))
-
-pub length-padded : (n : ℕ) (d : List ℕ) → length d ≤ n → length (padded n d) ≡ n
-length-padded n d h = simp (length-append, length-replicate) (omega arith)
 
 -- a text's days, then zeros
 pub padded-wide : (d : List ℕ) → length d ≤ datesMost → padded datesMost d ++ zeros (readingsMost - datesMost) ≡ padded readingsMost d

@@ -324,9 +324,6 @@ module _ (sep : ℕ → Bool) (t : Told) (s : List ℕ) (at : ℕ) where
   pub step-number : (q : Said) → stepAt sep t s at ≡ stop q → (q .state ≡ 1) ⊎ (15 ≤ q .state)
   step-number q e = step-fault q e .number
 
-  pub step-stop : (q : Said) → stepAt sep t s at ≡ stop q → 1 ≤ q .state
-  step-stop q e = elim (step-number q e) [ inl h ↦ omega arith | inr h ↦ omega arith ]
-
 -- the scan
 
 module _ (sep : ℕ → Bool) (s : List ℕ) where

@@ -19,9 +19,9 @@ use Rattle.table.specs.LayoutLaws.{Fit, Narrow, rel-words, length-words, words-
 use Rattle.table.specs.Strike.{pairAndMirror, Struck}
 use Rattle.table.specs.StrikeLaws.{length-struck}
 use Rattle.table.specs.Shape.{GoodSizes}
-use Rattle.scan.specs.Sheet.{byteAt, numberAt, raised, Record, field, gap, strike, fieldsOf, told, more, done, dateAt, daysAt as listAt, gapRight, strikeRight, markOf, byMark, whole}
+use Rattle.scan.specs.Sheet.{numberAt, Record, field, gap, strike, fieldsOf, told, more, done, dateAt, daysAt as listAt, gapRight, strikeRight, markOf, byMark, whole}
 use Rattle.scan.specs.RecordLaws.{fields-field, fields-pair, told-sizes}
-use Rattle.scan.specs.SheetLaws.{gap-no-end, strike-no-end, adds-more, date-stands, days-stand, gap-stands, strike-stands, end-no-more, step-more, step-done, scanOn, Going, goes, over, going}
+use Rattle.scan.specs.SheetLaws.{gap-no-end, strike-no-end, adds-more, date-stands, days-stand, gap-stands, strike-stands, end-no-more, step-more, step-done, scanOn, Going, goes, over, going, GapStands, StrikeStands}
 use Rattle.scan.specs.WholeLaws.{whole-some, count-grows, fields-fixed}
 use Rattle.scan.specs.Judging.{ReadsInterval, ReadsPair}
 use Rattle.scan.specs.declared.mark.Mark.{Mark}
@@ -31,7 +31,7 @@ use Rattle.scan.specs.declared.record.Pair.{Pair}
 use Rattle.scan.proofs.mark.Mark.{the-type}
 use Rattle.sheet.specs.Opening.{struckBy, outside, everything, opening, daysOf}
 use Rattle.sheet.specs.Writing.{daysAt, TwoFields, CellNarrowed, records, fields, Judged, FieldsTo, FieldsWritten, RulesTo}
-use Rattle.sheet.specs.OpeningLaws.{size-of, good-sizes}
+use Rattle.sheet.specs.OpeningLaws.{size-of, good-sizes, everything-e}
 use Rattle.sheet.specs.BufferLaws.{length-days}
 use Rattle.sheet.proofs.Filling.{days-of-field, fields-good, fields-few}
 use Rattle.sheet.proofs.Strikes.{Inside, opening-more, opening-none, opening-inside, narrow-stands, gap-stands as both-stand, without-agree, agree-on}
@@ -56,10 +56,7 @@ module _ {sheet sizes days : List ℕ} {at : ℕ} (f : FieldsTo sheet sizes days
 
 -- the wide bits of everything are none
 everything-narrow : (n : ℕ) (sizes : List ℕ) → ((i : ℕ) → i < n → sizeOf sizes i ≤ readingsMost) → Narrow n (everything sizes)
-unfolding everything
-everything-narrow n sizes f i j a b hi hj t =
-    let v = and-r (ltb a (sizeOf sizes i)) _ t in
-    (omega (arith, f i hi, ltb→lt a (sizeOf sizes i) (and-l (ltb a (sizeOf sizes i)) _ t)), omega (arith, f j hj, ltb→lt b (sizeOf sizes j) (and-l (ltb b (sizeOf sizes j)) _ v)))
+everything-narrow n sizes f i j a b hi hj t = let u = everything-e sizes i j a b t in omega (arith, u .0, u .1, f i hi, f j hj)
 
 -- the table of everything, before the first rule
 pub rules-start : {sheet sizes days t : List ℕ} {at : ℕ} → FieldsTo sheet sizes days (length sizes) at → t ≡ words (length sizes) (everything sizes) → RulesTo sheet sizes days t at
@@ -86,6 +83,25 @@ module _ {sheet sizes days t : List ℕ} {at : ℕ} (r : RulesTo sheet sizes day
       go : Going separator sheet (r .before) at (records sheet) → at + 2 ≤ length sheet
       go (goes q m e v) = step-more separator (told (r .before)) sheet at q m e .0
       go (over e v) = step-done separator (told (r .before)) sheet at e .0
+
+  -- a record of a mark that is not the end's stands there
+  record Here (m : Mark) : Type 0 where
+    says : Record
+    next : ℕ
+    step : byMark separator m (told (r .before)) sheet at ≡ more says next
+    on : scanOn separator sheet (r .before ++ says ∷ []) next ≡ whole (records sheet)
+
+  here : (m : Mark) → markOf (numberAt sheet at) ≡ m → (byMark separator m (told (r .before)) sheet at ≡ done → ⊥) → Here m
+  here m mark no-end = go onward
+    where
+      go : Going separator sheet (r .before) at (records sheet) → Here m
+      go (goes q k e v) = record {
+        says = q;
+        next = k;
+        step = subst (λ (x : Mark). byMark separator x (told (r .before)) sheet at ≡ more q k) mark (step-more separator (told (r .before)) sheet at q k e .1);
+        on = v;
+      }
+      go (over e v) = absurd (no-end (subst (λ (x : Mark). byMark separator x (told (r .before)) sheet at ≡ done) mark (step-done separator (told (r .before)) sheet at e .1)))
 
   told-is : told (r .before) .sizes ≡ sizes
   told-is = told-sizes (r .before) ∙ ap (map length) (r .same) ∙ sym (r .written .ofSizes)
@@ -126,35 +142,28 @@ module _ {sheet sizes days t : List ℕ} {at : ℕ} (r : RulesTo sheet sizes day
 
   -- GP
 
-  pub interval-there : markOf (numberAt sheet at) ≡ Gap → at + 8 ≤ length sheet
-  interval-there mark = go onward
-    where
-      go : Going separator sheet (r .before) at (records sheet) → at + 8 ≤ length sheet
-      go (goes q m e v) = gap-stands (told (r .before) .sizes) sheet at q m (subst (λ (x : Mark). byMark separator x (told (r .before)) sheet at ≡ more q m) mark (step-more separator (told (r .before)) sheet at q m e .1)) .fits
-      go (over e v) = absurd (gap-no-end (told (r .before) .sizes) sheet at (subst (λ (x : Mark). byMark separator x (told (r .before)) sheet at ≡ done) mark (step-done separator (told (r .before)) sheet at e .1)))
+  module _ (mark : markOf (numberAt sheet at) ≡ Gap) where
+    gap-next : Here Gap
+    gap-next = here Gap mark (gap-no-end (told (r .before) .sizes) sheet at)
+
+    gap-there : GapStands (told (r .before) .sizes) sheet at (gap-next .says) (gap-next .next)
+    gap-there = gap-stands (told (r .before) .sizes) sheet at (gap-next .says) (gap-next .next) (gap-next .step)
+
+    pub interval-there : at + 8 ≤ length sheet
+    interval-there = gap-there .fits
 
   module _ (mark : markOf (numberAt sheet at) ≡ Gap) {g : Interval} (reads : ReadsInterval sheet at g) where
-    record GapHere : Type 0 where
-      right : gapRight sizes (g .i) (g .j) (g .lo) (g .hi) ≡ true
-      on : scanOn separator sheet (r .before ++ gap (g .i) (g .j) (g .lo) (g .hi) ∷ []) (at + 8) ≡ whole (records sheet)
+    right : gapRight sizes (g .i) (g .j) (g .lo) (g .hi) ≡ true
+    right = rw (reads .i, reads .j, reads .lo, reads .hi, ← told-is) (gap-there mark .right)
 
-    is-gap : gap (g .i) (g .j) (g .lo) (g .hi) ≡ gap (byteAt sheet (at + 2)) (byteAt sheet (at + 3)) (raised (numberAt sheet (at + 4))) (raised (numberAt sheet (at + 6)))
-    is-gap = rw (reads .i, reads .j, reads .lo, reads .hi)
+    is-gap : gap (g .i) (g .j) (g .lo) (g .hi) ≡ gap-next mark .says
+    is-gap = rw (reads .i, reads .j, reads .lo, reads .hi) (sym (gap-there mark .is))
 
-    gap-here : GapHere
-    gap-here = go onward
-      where
-        go : Going separator sheet (r .before) at (records sheet) → GapHere
-        go (goes q m e v) =
-            let s = gap-stands (told (r .before) .sizes) sheet at q m (subst (λ (x : Mark). byMark separator x (told (r .before)) sheet at ≡ more q m) mark (step-more separator (told (r .before)) sheet at q m e .1)) in
-            record {
-              right = rw (reads .i, reads .j, reads .lo, reads .hi) (ap (λ (l : List ℕ). gapRight l (byteAt sheet (at + 2)) (byteAt sheet (at + 3)) (raised (numberAt sheet (at + 4))) (raised (numberAt sheet (at + 6)))) (sym told-is) ∙ s .right);
-              on = ap₂ (λ (x : Record) (k : ℕ). scanOn separator sheet (r .before ++ x ∷ []) k) (is-gap ∙ sym (s .is)) (sym (s .next)) ∙ v;
-            }
-        go (over e v) = absurd (gap-no-end (told (r .before) .sizes) sheet at (subst (λ (x : Mark). byMark separator x (told (r .before)) sheet at ≡ done) mark (step-done separator (told (r .before)) sheet at e .1)))
+    on-gap : scanOn separator sheet (r .before ++ gap (g .i) (g .j) (g .lo) (g .hi) ∷ []) (at + 8) ≡ whole (records sheet)
+    on-gap = ap₂ (λ (x : Record) (k : ℕ). scanOn separator sheet (r .before ++ x ∷ []) k) is-gap (sym (gap-there mark .next)) ∙ gap-next mark .on
 
     ordered : T (gapRight sizes (g .i) (g .j) (g .lo) (g .hi))
-    ordered = rw (gap-here .right) tt
+    ordered = rw right tt
 
     pub first-in : g .i < length sizes
     unfolding gapRight
@@ -199,7 +208,7 @@ module _ {sheet sizes days t : List ℕ} {at : ℕ} (r : RulesTo sheet sizes day
       pub gap-applied : RulesTo sheet sizes days v (at + 8)
       gap-applied = record {
         before = r .before ++ gap (g .i) (g .j) (g .lo) (g .hi) ∷ [];
-        upTo = record { whole = r .upTo .whole; on = gap-here .on };
+        upTo = record { whole = r .upTo .whole; on = on-gap };
         same = fields-pair (r .before) (gap (g .i) (g .j) (g .lo) (g .hi)) refl ∙ r .same;
         written = r .written;
         long = c′ .long ∙ c .long ∙ r .long;
@@ -212,39 +221,32 @@ module _ {sheet sizes days t : List ℕ} {at : ℕ} (r : RulesTo sheet sizes day
 
   -- PR
 
-  pub pair-there : markOf (numberAt sheet at) ≡ Strike → at + 6 ≤ length sheet
-  pair-there mark = go onward
-    where
-      go : Going separator sheet (r .before) at (records sheet) → at + 6 ≤ length sheet
-      go (goes q m e v) = strike-stands (told (r .before) .sizes) sheet at q m (subst (λ (x : Mark). byMark separator x (told (r .before)) sheet at ≡ more q m) mark (step-more separator (told (r .before)) sheet at q m e .1)) .fits
-      go (over e v) = absurd (strike-no-end (told (r .before) .sizes) sheet at (subst (λ (x : Mark). byMark separator x (told (r .before)) sheet at ≡ done) mark (step-done separator (told (r .before)) sheet at e .1)))
+  module _ (mark : markOf (numberAt sheet at) ≡ Strike) where
+    strike-next : Here Strike
+    strike-next = here Strike mark (strike-no-end (told (r .before) .sizes) sheet at)
+
+    strike-there : StrikeStands (told (r .before) .sizes) sheet at (strike-next .says) (strike-next .next)
+    strike-there = strike-stands (told (r .before) .sizes) sheet at (strike-next .says) (strike-next .next) (strike-next .step)
+
+    pub pair-there : at + 6 ≤ length sheet
+    pair-there = strike-there .fits
 
   module _ (mark : markOf (numberAt sheet at) ≡ Strike) {p : Pair} (reads : ReadsPair sheet at p) where
-    record StrikeHere : Type 0 where
-      right : strikeRight sizes (p .i) (p .j) (p .a) (p .b) ≡ true
-      on : scanOn separator sheet (r .before ++ strike (p .i) (p .j) (p .a) (p .b) ∷ []) (at + 6) ≡ whole (records sheet)
+    allowed : strikeRight sizes (p .i) (p .j) (p .a) (p .b) ≡ true
+    allowed = rw (reads .i, reads .j, reads .a, reads .b, ← told-is) (strike-there mark .right)
 
-    is-strike : strike (p .i) (p .j) (p .a) (p .b) ≡ strike (byteAt sheet (at + 2)) (byteAt sheet (at + 3)) (byteAt sheet (at + 4)) (byteAt sheet (at + 5))
-    is-strike = rw (reads .i, reads .j, reads .a, reads .b)
+    is-strike : strike (p .i) (p .j) (p .a) (p .b) ≡ strike-next mark .says
+    is-strike = rw (reads .i, reads .j, reads .a, reads .b) (sym (strike-there mark .is))
 
-    strike-here : StrikeHere
-    strike-here = go onward
-      where
-        go : Going separator sheet (r .before) at (records sheet) → StrikeHere
-        go (goes q m e v) =
-            let s = strike-stands (told (r .before) .sizes) sheet at q m (subst (λ (x : Mark). byMark separator x (told (r .before)) sheet at ≡ more q m) mark (step-more separator (told (r .before)) sheet at q m e .1)) in
-            record {
-              right = rw (reads .i, reads .j, reads .a, reads .b) (ap (λ (l : List ℕ). strikeRight l (byteAt sheet (at + 2)) (byteAt sheet (at + 3)) (byteAt sheet (at + 4)) (byteAt sheet (at + 5))) (sym told-is) ∙ s .right);
-              on = ap₂ (λ (x : Record) (k : ℕ). scanOn separator sheet (r .before ++ x ∷ []) k) (is-strike ∙ sym (s .is)) (sym (s .next)) ∙ v;
-            }
-        go (over e v) = absurd (strike-no-end (told (r .before) .sizes) sheet at (subst (λ (x : Mark). byMark separator x (told (r .before)) sheet at ≡ done) mark (step-done separator (told (r .before)) sheet at e .1)))
+    on-strike : scanOn separator sheet (r .before ++ strike (p .i) (p .j) (p .a) (p .b) ∷ []) (at + 6) ≡ whole (records sheet)
+    on-strike = ap₂ (λ (x : Record) (k : ℕ). scanOn separator sheet (r .before ++ x ∷ []) k) is-strike (sym (strike-there mark .next)) ∙ strike-next mark .on
 
     -- the pair is one of the sheet's fields and readings
     pub pair-in : (p .i < length sizes) × (p .j < length sizes) × (p .a < readingsMost) × (p .b < readingsMost)
     unfolding strikeRight
     pair-in =
         let z = length sizes in
-        let t0 : T (strikeRight sizes (p .i) (p .j) (p .a) (p .b)) = rw (strike-here .right) tt in
+        let t0 : T (strikeRight sizes (p .i) (p .j) (p .a) (p .b)) = rw allowed tt in
         let t1 = and-r (ltb (p .i) z) _ t0 in
         let t2 = and-r (ltb (p .j) z) _ t1 in
         let t3 = and-r (ltb (p .a) (getD sizes (p .i) 0)) _ t2 in
@@ -262,7 +264,7 @@ module _ {sheet sizes days t : List ℕ} {at : ℕ} (r : RulesTo sheet sizes day
     unfolding struckBy
     strike-applied {u} s = record {
       before = r .before ++ strike (p .i) (p .j) (p .a) (p .b) ∷ [];
-      upTo = record { whole = r .upTo .whole; on = strike-here .on };
+      upTo = record { whole = r .upTo .whole; on = on-strike };
       same = fields-pair (r .before) (strike (p .i) (p .j) (p .a) (p .b)) refl ∙ r .same;
       written = r .written;
       long = ap length (s .words) ∙ length-struck (length sizes) t (p .i) (p .j) (p .a) (p .b) ∙ r .long;

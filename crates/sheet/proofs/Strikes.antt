@@ -5,7 +5,7 @@ use mathlib.Core.Bool.{Bool, true, false, cond, not, _&&_, _||_}
 use mathlib.Core.List.{List, [], _∷_, _++_, map}
 use Prim.Native.Nat.{ℕ, _+_, _-_, _≤_, _<_}
 use native.Mathlib.Omega.{arith}
-use lib.Dec.{T, leb, ltb, eqb, leb→le, le→leb, ltb→lt, lt→ltb, eqb→eq, eqb-refl}
+use lib.Dec.{T, ltb, eqb, lt→ltb, eqb→eq, eqb-refl}
 use lib.ListN.{length, getD}
 use borrow.Author.Tests.{lt-ltb, le-ltb, eq-eqb}
 use Rattle.theory.specs.Limits.{readingsMost}
@@ -19,6 +19,9 @@ use Rattle.table.specs.LayoutLaws.{rel-bit, rel-narrow}
 use Rattle.table.specs.StrikeLaws.{strike-both}
 use Rattle.scan.specs.Sheet.{Record, field, gap, strike, anyPair}
 use Rattle.sheet.specs.Opening.{dayOf, admits, outside, turned, struckBy, struckByAll, everything, opening}
+use Rattle.theory.specs.StrikeLaws.{strike-in}
+use Rattle.sheet.specs.OpeningLaws.{everything-e}
+use Rattle.sheet.specs.AllowedLaws.{admits-e, admits-i}
 use Rattle.sheet.specs.Writing.{narrowedRow, CellNarrowed}
 
 -- one record more
@@ -66,12 +69,9 @@ opening-none fields rs e i j a b hi hj =
 
 -- no pair lies outside the sizes
 pub opening-inside : (fields : List (List ℕ)) (rs : List Record) (i j a b : ℕ) → T (opening fields rs i j a b) → (a < sizeOf (map length fields) i) × (b < sizeOf (map length fields) j)
-unfolding opening without everything
+unfolding opening
 opening-inside fields rs i j a b t =
-    let s = map length fields in
-    let u = and-l (everything s i j a b) _ t in
-    let v = and-r (ltb a (sizeOf s i)) _ u in
-    (ltb→lt a (sizeOf s i) (and-l (ltb a (sizeOf s i)) _ u), ltb→lt b (sizeOf s j) (and-l (ltb b (sizeOf s j)) _ v))
+    let u = everything-e (map length fields) i j a b (strike-in (struckByAll fields rs) (everything (map length fields)) i j a b t) in (u .0, u .1)
 
 -- an interval in a cell
 
@@ -165,10 +165,9 @@ module _ (n : ℕ) (t u : List ℕ) (i j : ℕ) (fields : List (List ℕ)) (lo h
 -- the interval from the other side
 
 pub admits-turned : (lo hi d e : ℕ) → lo ≤ 65536 → hi ≤ 65536 → admits (65536 - hi) (65536 - lo) e d ≡ admits lo hi d e
-unfolding admits
 admits-turned lo hi d e hl hh = T-ext _ _
-    (λ v. and-i (leb (d + lo) (e + 32768)) _ (le→leb (d + lo) (e + 32768) (omega (arith, leb→le (d + 32768) (e + (65536 - lo)) (and-r (leb (e + (65536 - hi)) (d + 32768)) _ v)))) (le→leb (e + 32768) (d + hi) (omega (arith, leb→le (e + (65536 - hi)) (d + 32768) (and-l (leb (e + (65536 - hi)) (d + 32768)) _ v)))))
-    (λ v. and-i (leb (e + (65536 - hi)) (d + 32768)) _ (le→leb (e + (65536 - hi)) (d + 32768) (omega (arith, leb→le (e + 32768) (d + hi) (and-r (leb (d + lo) (e + 32768)) _ v)))) (le→leb (d + 32768) (e + (65536 - lo)) (omega (arith, leb→le (d + lo) (e + 32768) (and-l (leb (d + lo) (e + 32768)) _ v)))))
+    (λ v. admits-i lo hi d e (let p = admits-e (65536 - hi) (65536 - lo) e d v in (omega (arith, p), omega (arith, p))))
+    (λ v. admits-i (65536 - hi) (65536 - lo) e d (let p = admits-e lo hi d e v in (omega (arith, p), omega (arith, p))))
 
 and-swap : (p q r : Bool) → (p && (q && r)) ≡ (q && (p && r))
 and-swap true q r = refl

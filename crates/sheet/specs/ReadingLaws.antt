@@ -153,11 +153,11 @@ module _ (sep : ℕ → Bool) (sheet sizes days table : List ℕ) where
       holds false e = absurd (not-both sizes days table (w .long) (lent-short sizes days table e))
 
   -- a sheet that is answered with n fields is whole, and has so many
-  pub record Opens (n : ℕ) : Type 0 where
+  pub record OpenedAs (n : ℕ) : Type 0 where
     pub whole : Whole (recordsOf sep sheet)
     pub count : n ≡ length (fieldsIn sep sheet)
 
-  ends-opened : (o : Outcome) → Ends o → (n : ℕ) → says 0 (n ∷ []) ≡ o .said → Opens n
+  ends-opened : (o : Outcome) → Ends o → (n : ℕ) → says 0 (n ∷ []) ≡ o .said → OpenedAs n
   ends-opened o (short e) n d = absurd (omega (arith, ap (λ (s : Said). s .state) d))
   ends-opened o (long e f) n d = absurd (omega (arith, ap (λ (s : Said). s .state) d))
   ends-opened o (fault e f q g) n d = absurd (fault-not sep sheet q g 0 (omega arith) (λ x. omega arith) (sym (ap (λ (s : Said). s .state) d)))
@@ -166,7 +166,7 @@ module _ (sep : ℕ → Bool) (sheet sizes days table : List ℕ) where
       record { whole = rw e w; count = rw e (ap (λ (s : Said). getD (s .values) 0 0) d) }
 
   module _ {n : ℕ} {s d t : List ℕ} (r : Reads (reading sep sheet sizes days table) (Fields n) s d t) where
-    pub reads-opened : Opens n
+    pub reads-opened : OpenedAs n
     reads-opened = ends-opened (reading sep sheet sizes days table) reading-ends n (r .answers)
 
     -- and what it leaves

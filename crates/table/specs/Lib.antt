@@ -1,6 +1,7 @@
 pub mod Layout
 pub mod Post
 pub mod LayoutLaws
+pub mod PartLaws
 pub mod Checks
 pub mod CheckLaws
 pub mod Cells

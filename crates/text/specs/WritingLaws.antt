@@ -4,7 +4,7 @@ use mathlib.Core.List.{List, [], _∷_, _++_}
 use Prim.Native.Nat.{ℕ, zero, suc, _+_, _-_, _≤_}
 use native.Mathlib.Nat.{add-zero, add-suc, suc-add, sub-zero, zero-sub, suc-sub-suc}
 use native.Mathlib.Omega.{arith}
-use lib.ListN.{length, set, take, drop, length-append, length-replicate}
+use lib.ListN.{length, set, take, drop, length-append}
 use lib.Seq.{sets, length-sets, sets-eq, take-at}
 use Rattle.text.specs.Writing.{Room, Wrote, zeros, Shows}
 
@@ -43,9 +43,6 @@ wrote-within w = omega (arith, wrote-length w)
 -- what was written at the front can be taken from there
 pub wrote-taken : {l m : List ℕ} {j : ℕ} {xs : List ℕ} → Wrote l m 0 j xs → take j m ≡ xs
 wrote-taken {l} {m} {j} {xs} w = rw (w .holds, sets-eq xs l 0 (w .room .enough)) (take-at xs (drop (0 + length xs) l) j (omega arith))
-
-zeros-length : (n : ℕ) → length (zeros n) ≡ n
-zeros-length n = length-replicate n 0
 
 zeros-drop : (k n : ℕ) → drop k (zeros n) ≡ zeros (n - k)
 zeros-drop zero n = ap zeros (sym (sub-zero n))

@@ -1,9 +1,9 @@
 //! Reading a sheet: one pass that only looks, then one that writes.
 
 use super::{cell_mut, date, take_lowest, Cell};
-use crate::limits::{FIELDS, LAST_DAY, READINGS, SHEET_BYTES};
+use crate::limits::{FIELDS, LAST_DAY, READINGS};
 use crate::refusal::Refusal;
-use crate::sheet::{LENT_DAYS, LENT_SIZES, LENT_WORDS};
+use crate::sheet::check_lengths;
 use crate::table::readings_mask;
 
 /// The fields of a sheet and where its rules begin.
@@ -20,12 +20,7 @@ pub fn read<const KEEN: bool>(
     days: &mut [u16],
     words: &mut [u32],
 ) -> Result<usize, Refusal> {
-    if sizes.len() < LENT_SIZES || days.len() < LENT_DAYS || words.len() < LENT_WORDS {
-        return Err(Refusal::bare(13));
-    }
-    if sheet.len() > SHEET_BYTES {
-        return Err(Refusal::bare(14));
-    }
+    check_lengths(sheet, sizes, days, words)?;
     let fields = look(sheet)?;
     let n = fields.n;
     sizes[..n].copy_from_slice(&fields.sizes[..n]);

@@ -22,7 +22,7 @@ days-of-requires-2 : tie.Need-days-of-requires-2
 days-of-requires-2 c κs = days-room (c .before .before .before .before .before .before .before .before .pre .0) _ _ (second-in (c .before .before .before .before .before .before .before .before .pre .0) (c .before .before .before .before .before .before .before .before .pre .1) (c .before .before .before .interval-at .ensures)) (c .byte-at2 .ensures)
 
 narrow-cell-requires : tie.Need-narrow-cell-requires
-narrow-cell-requires c κs = (rules-sized (c .before .before .before .before .before .before .before .before .before .before .pre .0), first-in (c .before .before .before .before .before .before .before .before .before .before .pre .0) (c .before .before .before .before .before .before .before .before .before .before .pre .1) (c .before .before .before .before .before .interval-at .ensures), second-in (c .before .before .before .before .before .before .before .before .before .before .pre .0) (c .before .before .before .before .before .before .before .before .before .before .pre .1) (c .before .before .before .before .before .interval-at .ensures), two (c .before .before .before .before .before .before .before .before .before .before .pre .0) (c .before .before .before .before .before .before .before .before .before .before .pre .1) (c .before .before .before .before .before .interval-at .ensures) (c .before .before .before .before .byte-at .ensures) (c .before .before .before .days-of .ensures) (c .before .before .byte-at2 .ensures) (c .before .days-of2 .ensures), low (c .before .before .before .before .before .before .before .before .before .before .pre .0) (c .before .before .before .before .before .before .before .before .before .before .pre .1) (c .before .before .before .before .before .interval-at .ensures), high (c .before .before .before .before .before .before .before .before .before .before .pre .0) (c .before .before .before .before .before .before .before .before .before .before .pre .1) (c .before .before .before .before .before .interval-at .ensures))
+narrow-cell-requires c κs = (rules-sized (c .before .before .before .before .before .before .before .before .before .before .pre .0), first-in (c .before .before .before .before .before .before .before .before .before .before .pre .0) (c .before .before .before .before .before .before .before .before .before .before .pre .1) (c .before .before .before .before .before .interval-at .ensures), second-in (c .before .before .before .before .before .before .before .before .before .before .pre .0) (c .before .before .before .before .before .before .before .before .before .before .pre .1) (c .before .before .before .before .before .interval-at .ensures), two (c .before .before .before .before .before .before .before .before .before .before .pre .0) (c .before .before .before .before .before .before .before .before .before .before .pre .1) (c .before .before .before .before .before .interval-at .ensures) (c .before .before .before .before .byte-at .ensures) (c .before .before .before .days-of .ensures) (c .before .before .byte-at2 .ensures) (c .before .days-of2 .ensures), omega (arith, low (c .before .before .before .before .before .before .before .before .before .before .pre .0) (c .before .before .before .before .before .before .before .before .before .before .pre .1) (c .before .before .before .before .before .interval-at .ensures), high (c .before .before .before .before .before .before .before .before .before .before .pre .0) (c .before .before .before .before .before .before .before .before .before .before .pre .1) (c .before .before .before .before .before .interval-at .ensures)), omega (arith, low (c .before .before .before .before .before .before .before .before .before .before .pre .0) (c .before .before .before .before .before .before .before .before .before .before .pre .1) (c .before .before .before .before .before .interval-at .ensures), high (c .before .before .before .before .before .before .before .before .before .before .pre .0) (c .before .before .before .before .before .before .before .before .before .before .pre .1) (c .before .before .before .before .before .interval-at .ensures)))
 
 sub-narrow-cell : tie.Need-sub-narrow-cell
 sub-narrow-cell c = omega (arith, low (c .before .before .before .before .before .before .before .before .before .before .before .before .before .before .before .pre .0) (c .before .before .before .before .before .before .before .before .before .before .before .before .before .before .before .pre .1) (c .before .before .before .before .before .before .before .before .before .before .interval-at .ensures), high (c .before .before .before .before .before .before .before .before .before .before .before .before .before .before .before .pre .0) (c .before .before .before .before .before .before .before .before .before .before .before .before .before .before .before .pre .1) (c .before .before .before .before .before .before .before .before .before .before .interval-at .ensures))
