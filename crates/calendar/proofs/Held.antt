@@ -7,7 +7,7 @@ use lib.ListN.{length}
 use lib.Seq.{take-append-seam}
 use Rattle.calendar.specs.declared.found.Found.{Found}
 use Rattle.calendar.specs.Ascending.{ascending}
-use Rattle.calendar.specs.DateAnswers.{datesMost}
+use Rattle.calendar.specs.DateText.{datesMost}
 use Rattle.calendar.specs.DaysFound.{Holds, held, Room}
 
 pub held-is : {l : List ℕ} {f : Found} → Holds l f → held f ≡ l

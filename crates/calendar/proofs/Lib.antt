@@ -1,3 +1,4 @@
 pub mod Carry
 pub mod Held
+pub mod Laid
 pub mod Years

@@ -8,11 +8,7 @@ use Rattle.refusal.specs.Said.{Said, says, refused}
 use Rattle.calendar.specs.declared.DateAnswer.{DateAnswer}
 use Rattle.calendar.specs.declared.DateAnswer.the-variants.{Days, Refused}
 use Rattle.calendar.specs.declared.DateRead.{DateRead}
-use Rattle.calendar.specs.DateText.{shapedDate, means}
-
--- a text shows at most two dates
-abbrev pub datesMost : ℕ
-datesMost = 2
+use Rattle.calendar.specs.DateText.{datesMost, shapedDate, means}
 
 -- the list, then zeros, k entries in all
 abbrev pub padded : ℕ → List ℕ → List ℕ

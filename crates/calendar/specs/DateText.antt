@@ -10,43 +10,74 @@ use Rattle.theory.specs.Bound.{all}
 use Rattle.calendar.specs.Calendar.{firstYear, lastYear, Date, date, real, OfCentury, dayOf}
 use Rattle.calendar.specs.Ascending.{insert}
 
--- a date text has ten bytes
+-- the bytes of a date text
 abbrev pub dateLength : ℕ
 dateLength = 10
+
+-- those of a short one, with two digits for the year
+abbrev pub shortLength : ℕ
+shortLength = 8
+
+-- the dates that a text shows at most
+abbrev pub datesMost : ℕ
+datesMost = 3
 
 -- `/`, `.` and `-`
 unfoldable pub separator : ℕ → Bool
 separator b = eqb b 47 || eqb b 46 || eqb b 45
 
--- which of day and month a text gives first
+-- what a text gives first, the year in four digits or, in a short text, in two
 pub data Order : Type 0 where
   dayFirst monthFirst : Order
+  shortDayFirst shortMonthFirst shortYearFirst : Order
 
 -- n in two ASCII digits
 unfoldable pub twoDigits : ℕ → List ℕ
 twoDigits n = (48 + n / 10) ∷ (48 + n % 10) ∷ []
 
--- two numbers of two digits and a year of four, with s between them
-unfoldable pub parted : ℕ → ℕ → ℕ → ℕ → List ℕ
-parted s a b y = twoDigits a ++ s ∷ twoDigits b ++ s ∷ twoDigits (y / 100) ++ twoDigits (y % 100)
+-- n in four
+unfoldable pub fourDigits : ℕ → List ℕ
+fourDigits n = twoDigits (n / 100) ++ twoDigits (n % 100)
 
--- a date as it is written, in ten bytes
+-- three parts with s between them
+unfoldable pub parted : ℕ → (a b c : List ℕ) → List ℕ
+parted s a b c = a ++ s ∷ b ++ s ∷ c
+
+-- a date as it is written, in ten bytes or in eight
 unfoldable pub written : Order → ℕ → Date → List ℕ
-written dayFirst s t = parted s (t .day) (t .month) (t .year)
-written monthFirst s t = parted s (t .month) (t .day) (t .year)
+written dayFirst s t = parted s (twoDigits (t .day)) (twoDigits (t .month)) (fourDigits (t .year))
+written monthFirst s t = parted s (twoDigits (t .month)) (twoDigits (t .day)) (fourDigits (t .year))
+written shortDayFirst s t = parted s (twoDigits (t .day)) (twoDigits (t .month)) (twoDigits (t .year % 100))
+written shortMonthFirst s t = parted s (twoDigits (t .month)) (twoDigits (t .day)) (twoDigits (t .year % 100))
+written shortYearFirst s t = parted s (twoDigits (t .year % 100)) (twoDigits (t .month)) (twoDigits (t .day))
+
+-- the bytes of such a writing
+abbrev pub lengthOf : Order → ℕ
+lengthOf dayFirst = dateLength
+lengthOf monthFirst = dateLength
+lengthOf shortDayFirst = shortLength
+lengthOf shortMonthFirst = shortLength
+lengthOf shortYearFirst = shortLength
 
 -- the number of two digits at place i
 unfoldable pub pairAt : List ℕ → ℕ → ℕ
 pairAt text i = (getD text i 0 - 48) * 10 + (getD text (i + 1) 0 - 48)
 
--- the year of a text
+-- the year of four digits
 unfoldable pub yearIn : List ℕ → ℕ
 yearIn text = pairAt text 6 * 100 + pairAt text 8
+
+-- the year of the two digits at place i
+unfoldable pub shortYearAt : List ℕ → ℕ → ℕ
+shortYearAt text i = firstYear + pairAt text i
 
 -- a text read in an order
 unfoldable pub readAs : Order → List ℕ → Date
 readAs dayFirst text = date (yearIn text) (pairAt text 3) (pairAt text 0)
 readAs monthFirst text = date (yearIn text) (pairAt text 0) (pairAt text 3)
+readAs shortDayFirst text = date (shortYearAt text 6) (pairAt text 3) (pairAt text 0)
+readAs shortMonthFirst text = date (shortYearAt text 6) (pairAt text 0) (pairAt text 3)
+readAs shortYearFirst text = date (shortYearAt text 0) (pairAt text 3) (pairAt text 6)
 
 -- an ASCII digit
 unfoldable pub digit : ℕ → Bool
@@ -61,9 +92,17 @@ fitsAt sep text i =
 unfoldable pub laidOut : (ℕ → Bool) → ℕ → List ℕ → Bool
 laidOut sep n text = eqb (length text) n && all n (fitsAt sep text)
 
--- the shape of a date text, and a year of the century
+-- the shape of a text with a year of four digits, and that a year of the century
+unfoldable pub shapedLong : (ℕ → Bool) → List ℕ → Bool
+shapedLong sep text = laidOut sep dateLength text && (leb firstYear (yearIn text) && leb (yearIn text) lastYear)
+
+-- a text of eight bytes is a short one, any other is not
+abbrev pub isShort : List ℕ → Bool
+isShort text = eqb (length text) shortLength
+
+-- the shape of a date text; every year of two digits is one of the century
 unfoldable pub shapedDate : (ℕ → Bool) → List ℕ → Bool
-shapedDate sep text = laidOut sep dateLength text && (leb firstYear (yearIn text) && leb (yearIn text) lastYear)
+shapedDate sep text = cond (isShort text) (laidOut sep shortLength text) (shapedLong sep text)
 
 -- the day of a date put into an ascending list, if the date is real
 unfoldable pub withReal : Date → List ℕ → List ℕ
@@ -76,7 +115,9 @@ daysOf (t ∷ l) = withReal t (daysOf l)
 
 -- the dates that a text shows, real or not
 unfoldable pub shown : List ℕ → List Date
-shown text = readAs dayFirst text ∷ readAs monthFirst text ∷ []
+shown text =
+    cond (isShort text) (readAs shortDayFirst text ∷ readAs shortMonthFirst text ∷ readAs shortYearFirst text ∷ [])
+    (readAs dayFirst text ∷ readAs monthFirst text ∷ [])
 
 -- the days that a text can mean
 unfoldable pub means : (ℕ → Bool) → List ℕ → List ℕ

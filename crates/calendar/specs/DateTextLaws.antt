@@ -1,213 +1,174 @@
 -- A text means the days of the real dates of which it is the writing.
-use mathlib.Core.Path.{_≡_, refl, sym, ap, ap₂, subst}
+use mathlib.Core.Path.{_≡_, refl, sym, ap, subst, _∙_}
 use mathlib.Core.Logic.{_↔_, _⊎_, inl, inr}
-use mathlib.Core.Bool.{Bool, true, false, cond, _&&_}
+use mathlib.Core.Bool.{Bool, true, false, true≢false, cond}
 use mathlib.Core.List.{List, [], _∷_, List·Memᴰ, List·Memᴰ·head, List·Memᴰ·tail, List·Memᴰ·cases-cons, List·Memᴰ·not-nil, List·Memᴰ·eq-of-singleton}
-use Prim.Native.Nat.{ℕ, zero, suc, _+_, _-_, _*_, _/_, _%_, _≤_, _<_}
+use Prim.Native.Nat.{ℕ, suc, _≤_, _<_}
 use native.Mathlib.Nat.{le-refl}
 use native.Mathlib.Omega.{arith}
-use lib.Dec.{T, leb, eqb, leb→le, le→leb, eqb→eq, eqb-refl}
+use lib.Dec.{T, leb, leb→le, le→leb, eqb→eq}
 use lib.ListN.{length, getD}
-use Rattle.theory.specs.BoundLaws.{and-i, and-l, and-r, all-i, all-e, upto}
+use borrow.Author.Tests.{eq-eqb, ne-eqb}
+use Rattle.theory.specs.BoundLaws.{and-i, and-l, and-r}
 use Rattle.calendar.specs.Calendar.{firstYear, lastYear, Date, real, dayOf}
 use Rattle.calendar.specs.CalendarLaws.{month-most, real-in}
 use Rattle.calendar.specs.Ascending.{ascending, insert}
 use Rattle.calendar.specs.AscendingLaws.{ascending-places, insert-ascending, insert-length, insert-has, insert-new, insert-old}
-use Rattle.calendar.specs.DateText.{dateLength, Order, dayFirst, monthFirst, twoDigits, parted, written, pairAt, yearIn, readAs, digit, fitsAt, laidOut, shapedDate, withReal, daysOf, shown, means, Writing, Reading}
+use Rattle.calendar.specs.DateText.{dateLength, shortLength, datesMost, Order, dayFirst, monthFirst, shortDayFirst, shortMonthFirst, shortYearFirst, written, lengthOf, yearIn, shortYearAt, readAs, laidOut, shapedLong, isShort, shapedDate, withReal, daysOf, shown, means, Writing, Reading}
+use Rattle.calendar.specs.WritingLaws.{laid-length, laid-mark, first-pair, second-pair, third-pair, written-read, written-laid, read-written, written-length}
 
--- digits
+-- short texts and others
 
-pub digit-bounds : (b : ℕ) → T (digit b) → (48 ≤ b) × (b ≤ 57)
-unfolding digit
-digit-bounds b h = (leb→le 48 b (and-l (leb 48 b) _ h), leb→le b 57 (and-r (leb 48 b) _ h))
+module _ (text : List ℕ) where
+  is-short : length text ≡ shortLength → isShort text ≡ true
+  is-short e = eq-eqb (length text) shortLength e
 
-pub digit-of : (b : ℕ) → 48 ≤ b → b ≤ 57 → T (digit b)
-unfolding digit
-digit-of b l h = and-i (leb 48 b) (leb b 57) (le→leb 48 b l) (le→leb b 57 h)
+  not-short : (length text ≡ shortLength → ⊥) → isShort text ≡ false
+  not-short n = ne-eqb (length text) shortLength n
 
--- two digits are those of the number that they write
-pub digits-written : (x y : ℕ) → T (digit x) → T (digit y) → twoDigits ((x - 48) * 10 + (y - 48)) ≡ x ∷ y ∷ []
-unfolding twoDigits
-digits-written x y h k =
-    let a = digit-bounds x h in
-    let b = digit-bounds y k in
-    ap₂ (λ (p q : ℕ). p ∷ q ∷ []) (omega arith) (omega arith)
+  pub shown-short : length text ≡ shortLength → shown text ≡ readAs shortDayFirst text ∷ readAs shortMonthFirst text ∷ readAs shortYearFirst text ∷ []
+  unfolding shown
+  shown-short e = rw (is-short e)
 
--- n entries, of which f says each
-tabled : ℕ → (ℕ → ℕ) → List ℕ
-tabled zero f = []
-tabled (suc n) f = f 0 ∷ tabled n (λ i. f (suc i))
+  pub shown-long : (length text ≡ shortLength → ⊥) → shown text ≡ readAs dayFirst text ∷ readAs monthFirst text ∷ []
+  unfolding shown
+  shown-long n = rw (not-short n)
 
-spread : (n : ℕ) (l : List ℕ) → length l ≡ n → tabled n (λ i. getD l i 0) ≡ l
-unfolding tabled
-spread zero [] e = refl
-spread zero (x ∷ l) e = absurd (omega arith)
-spread (suc n) [] e = absurd (omega arith)
-spread (suc n) (x ∷ l) e = ap (λ (r : List ℕ). x ∷ r) (spread n l (omega arith))
+  module _ (sep : ℕ → Bool) where
+    pub shaped-as-short : length text ≡ shortLength → shapedDate sep text ≡ laidOut sep shortLength text
+    unfolding shapedDate
+    shaped-as-short e = rw (is-short e)
 
-module _ (sep : ℕ → Bool) (text : List ℕ) (h : T (laidOut sep dateLength text)) where
-  pub laid-length : length text ≡ dateLength
-  unfolding laidOut
-  laid-length = eqb→eq (length text) 10 (and-l (eqb (length text) dateLength) _ h)
+    pub shaped-as-long : (length text ≡ shortLength → ⊥) → shapedDate sep text ≡ shapedLong sep text
+    unfolding shapedDate
+    shaped-as-long n = rw (not-short n)
 
-  -- each place is in order
-  pub laid-at : (i : ℕ) → i < dateLength → T (fitsAt sep text i)
-  unfolding laidOut
-  laid-at = all-e 10 (fitsAt sep text) (and-r (eqb (length text) dateLength) _ h)
+short-or-not : (text : List ℕ) → (length text ≡ shortLength) ⊎ (length text ≡ shortLength → ⊥)
+short-or-not text = go (isShort text) refl
+  where
+    go : (b : Bool) → isShort text ≡ b → (length text ≡ shortLength) ⊎ (length text ≡ shortLength → ⊥)
+    go true e = inl (eqb→eq (length text) shortLength (rw e tt))
+    go false e = inr (λ z. true≢false (sym (is-short text z) ∙ e))
 
-  pub laid-pair : (i : ℕ) → T (digit (getD text i 0)) → T (digit (getD text (i + 1) 0)) → (pairAt text i < 100) × (twoDigits (pairAt text i) ≡ getD text i 0 ∷ getD text (i + 1) 0 ∷ [])
-  unfolding pairAt
-  laid-pair i d e =
-      let a = digit-bounds (getD text i 0) d in
-      let b = digit-bounds (getD text (i + 1) 0) e in
-      (omega arith, digits-written (getD text i 0) (getD text (i + 1) 0) d e)
+-- a text with a year of four digits
+module _ (sep : ℕ → Bool) (text : List ℕ) (h : T (shapedLong sep text)) where
+  pub long-laid : T (laidOut sep dateLength text)
+  unfolding shapedLong
+  long-laid = and-l (laidOut sep dateLength text) _ h
 
-  -- a text laid out is written of what it shows
-  laid-written : parted (getD text 2 0) (pairAt text 0) (pairAt text 3) (yearIn text) ≡ text
-  unfolding parted yearIn fitsAt tabled
-  laid-written =
-      let a = laid-pair 0 (laid-at 0 (omega arith)) (laid-at 1 (omega arith)) in
-      let b = laid-pair 3 (laid-at 3 (omega arith)) (laid-at 4 (omega arith)) in
-      let c = laid-pair 6 (laid-at 6 (omega arith)) (laid-at 7 (omega arith)) in
-      let d = laid-pair 8 (laid-at 8 (omega arith)) (laid-at 9 (omega arith)) in
-      let hi : (pairAt text 6 * 100 + pairAt text 8) / 100 ≡ pairAt text 6 = omega arith in
-      let lo : (pairAt text 6 * 100 + pairAt text 8) % 100 ≡ pairAt text 8 = omega arith in
-      let s : getD text 5 0 ≡ getD text 2 0 = eqb→eq _ _ (and-r (sep (getD text 5 0)) _ (laid-at 5 (omega arith))) in
-      rw (hi, lo, a .1, b .1, c .1, d .1) (rw s at (spread 10 text laid-length))
-
-  -- in either order
-  pub written-read : (o : Order) → written o (getD text 2 0) (readAs o text) ≡ text
-  unfolding written readAs
-  written-read dayFirst = laid-written
-  written-read monthFirst = laid-written
-
--- what is written
-
-module _ (sep : ℕ → Bool) (s a b y : ℕ) (hs : T (sep s)) (ha : a < 100) (hb : b < 100) (hf : firstYear ≤ y) (hu : y ≤ lastYear) where
-  parted-year : yearIn (parted s a b y) ≡ y
-  unfolding yearIn pairAt parted twoDigits
-  parted-year = omega arith
-
-  parted-first : pairAt (parted s a b y) 0 ≡ a
-  unfolding pairAt parted twoDigits
-  parted-first = omega arith
-
-  parted-second : pairAt (parted s a b y) 3 ≡ b
-  unfolding pairAt parted twoDigits
-  parted-second = omega arith
-
-  parted-fits : (i : ℕ) → i < dateLength → T (fitsAt sep (parted s a b y) i)
-  unfolding fitsAt parted twoDigits
-  parted-fits =
-      up 9 (low (y % 100))
-      (up 8 (high (y % 100) (omega arith))
-      (up 7 (low (y / 100))
-      (up 6 (high (y / 100) (omega arith))
-      (up 5 mark
-      (up 4 (low b)
-      (up 3 (high b hb)
-      (up 2 mark
-      (up 1 (low a)
-      (up 0 (high a ha)
-      (λ i h. absurd (omega arith)))))))))))
-    where
-      low : (n : ℕ) → T (digit (48 + n % 10))
-      low n = digit-of (48 + n % 10) (omega arith) (omega arith)
-
-      high : (n : ℕ) → n < 100 → T (digit (48 + n / 10))
-      high n h = digit-of (48 + n / 10) (omega arith) (omega arith)
-
-      mark : T (sep s && eqb s s)
-      mark = and-i (sep s) (eqb s s) hs (eqb-refl s)
-
-      up : (k : ℕ) → T (fitsAt sep (parted s a b y) k) → ((e : ℕ) → e < k → T (fitsAt sep (parted s a b y) e)) → (e : ℕ) → e < suc k → T (fitsAt sep (parted s a b y) e)
-      up k = upto {k = k} (λ i. T (fitsAt sep (parted s a b y) i))
-
-  parted-laid : T (laidOut sep dateLength (parted s a b y))
-  unfolding laidOut parted twoDigits
-  parted-laid = all-i 10 (fitsAt sep (parted s a b y)) parted-fits
-
-  parted-shaped : T (shapedDate sep (parted s a b y))
-  unfolding shapedDate
-  parted-shaped =
-      and-i (laidOut sep dateLength (parted s a b y)) _ parted-laid
-      (rw parted-year (and-i (leb firstYear y) (leb y lastYear) (le→leb _ _ hf) (le→leb _ _ hu)))
-
--- a writing has the shape, and is read as what was written
-module _ (sep : ℕ → Bool) (o : Order) (s : ℕ) (t : Date) (hs : T (sep s)) (hd : t .day < 100) (hm : t .month < 100) (hf : firstYear ≤ t .year) (hu : t .year ≤ lastYear) where
-  pub written-shaped : T (shapedDate sep (written o s t))
-  unfolding written
-  written-shaped = elim o [
-    | dayFirst ↦ parted-shaped sep s (t .day) (t .month) (t .year) hs hd hm hf hu
-    | monthFirst ↦ parted-shaped sep s (t .month) (t .day) (t .year) hs hm hd hf hu
-  ]
-
-  pub read-written : readAs o (written o s t) ≡ t
-  unfolding written readAs
-  read-written = elim o [
-    | dayFirst ↦ λ i. record {
-      year = parted-year sep s (t .day) (t .month) (t .year) hs hd hm hf hu i;
-      month = parted-second sep s (t .day) (t .month) (t .year) hs hd hm hf hu i;
-      day = parted-first sep s (t .day) (t .month) (t .year) hs hd hm hf hu i;
-    }
-    | monthFirst ↦ λ i. record {
-      year = parted-year sep s (t .month) (t .day) (t .year) hs hm hd hf hu i;
-      month = parted-first sep s (t .month) (t .day) (t .year) hs hm hd hf hu i;
-      day = parted-second sep s (t .month) (t .day) (t .year) hs hm hd hf hu i;
-    }
-  ]
-
-module _ (sep : ℕ → Bool) (text : List ℕ) (h : T (shapedDate sep text)) where
-  pub shaped-laid : T (laidOut sep dateLength text)
-  unfolding shapedDate
-  shaped-laid = and-l (laidOut sep dateLength text) _ h
-
-  pub shaped-year : (firstYear ≤ yearIn text) × (yearIn text ≤ lastYear)
-  unfolding shapedDate
-  shaped-year =
+  pub long-years : (firstYear ≤ yearIn text) × (yearIn text ≤ lastYear)
+  unfolding shapedLong
+  long-years =
       let y = and-r (laidOut sep dateLength text) _ h in
       (leb→le _ _ (and-l (leb firstYear (yearIn text)) _ y), leb→le _ _ (and-r (leb firstYear (yearIn text)) _ y))
 
-  shaped-mark : T (sep (getD text 2 0))
-  unfolding fitsAt
-  shaped-mark = and-l (sep (getD text 2 0)) _ (laid-at sep text shaped-laid 2 (omega arith))
+-- a short one: each of its pairs is a year of the century
+module _ (sep : ℕ → Bool) (text : List ℕ) (h : T (laidOut sep shortLength text)) where
+  last-year : (firstYear ≤ shortYearAt text 6) × (shortYearAt text 6 ≤ lastYear)
+  unfolding shortYearAt
+  last-year = let p = third-pair sep shortLength text h (omega arith) .0 in (omega arith, omega arith)
 
-  shaped-writing : Writing sep text
-  unfolding fitsAt readAs
-  shaped-writing =
-      let at = laid-at sep text shaped-laid in
-      record {
-        order = dayFirst;
-        mark = getD text 2 0;
-        figures = readAs dayFirst text;
-        separates = shaped-mark;
-        day = laid-pair sep text shaped-laid 0 (at 0 (omega arith)) (at 1 (omega arith)) .0;
-        month = laid-pair sep text shaped-laid 3 (at 3 (omega arith)) (at 4 (omega arith)) .0;
-        from = shaped-year .0;
-        upto = shaped-year .1;
-        writes = written-read sep text shaped-laid dayFirst;
-      }
+  first-year : (firstYear ≤ shortYearAt text 0) × (shortYearAt text 0 ≤ lastYear)
+  unfolding shortYearAt
+  first-year = let p = first-pair sep shortLength text h (omega arith) .0 in (omega arith, omega arith)
+
+-- a text of the shape, read in an order of its length
+module _ (sep : ℕ → Bool) (text : List ℕ) (h : T (shapedDate sep text)) where
+  as-short : length text ≡ shortLength → T (laidOut sep shortLength text)
+  as-short e = subst T (shaped-as-short text sep e) h
+
+  as-long : length text ≡ dateLength → T (shapedLong sep text)
+  as-long e = subst T (shaped-as-long text sep (λ z. omega arith)) h
+
+  laid-in : (o : Order) → length text ≡ lengthOf o → T (laidOut sep (lengthOf o) text)
+  laid-in dayFirst e = long-laid sep text (as-long e)
+  laid-in monthFirst e = long-laid sep text (as-long e)
+  laid-in shortDayFirst e = as-short e
+  laid-in shortMonthFirst e = as-short e
+  laid-in shortYearFirst e = as-short e
+
+  years-in : (o : Order) → length text ≡ lengthOf o → (firstYear ≤ readAs o text .year) × (readAs o text .year ≤ lastYear)
+  unfolding readAs
+  years-in dayFirst e = long-years sep text (as-long e)
+  years-in monthFirst e = long-years sep text (as-long e)
+  years-in shortDayFirst e = last-year sep text (as-short e)
+  years-in shortMonthFirst e = last-year sep text (as-short e)
+  years-in shortYearFirst e = first-year sep text (as-short e)
+
+  mark-in : (o : Order) → length text ≡ lengthOf o → T (sep (getD text 2 0))
+  mark-in o e = laid-mark sep (lengthOf o) text (laid-in o e) (two o)
+    where
+      two : (o : Order) → 2 < lengthOf o
+      two dayFirst = omega arith
+      two monthFirst = omega arith
+      two shortDayFirst = omega arith
+      two shortMonthFirst = omega arith
+      two shortYearFirst = omega arith
 
   -- a real date that the text shows is one of its readings
-  shaped-reading : (o : Order) → T (real (readAs o text)) → Reading sep text (dayOf (readAs o text))
-  unfolding readAs
-  shaped-reading o r = record {
+  shaped-reading : (o : Order) → length text ≡ lengthOf o → T (real (readAs o text)) → Reading sep text (dayOf (readAs o text))
+  shaped-reading o e r = record {
     order = o;
     mark = getD text 2 0;
     meant = readAs o text;
-    separates = shaped-mark;
-    ofCentury = record { isReal = r; from = from-in o; upto = upto-in o };
-    writes = written-read sep text shaped-laid o;
+    separates = mark-in o e;
+    ofCentury = record { isReal = r; from = years-in o e .0; upto = years-in o e .1 };
+    writes = written-read sep text o (laid-in o e);
     number = refl;
   }
-    where
-      from-in : (o : Order) → firstYear ≤ readAs o text .year
-      from-in dayFirst = shaped-year .0
-      from-in monthFirst = shaped-year .0
 
-      upto-in : (o : Order) → readAs o text .year ≤ lastYear
-      upto-in dayFirst = shaped-year .1
-      upto-in monthFirst = shaped-year .1
+  -- day and month have two digits each
+  figures-in : (o : Order) → length text ≡ lengthOf o → (readAs o text .day < 100) × (readAs o text .month < 100)
+  unfolding readAs
+  figures-in dayFirst e = (first-pair sep dateLength text (long-laid sep text (as-long e)) (omega arith) .0, second-pair sep dateLength text (long-laid sep text (as-long e)) (omega arith) .0)
+  figures-in monthFirst e = (second-pair sep dateLength text (long-laid sep text (as-long e)) (omega arith) .0, first-pair sep dateLength text (long-laid sep text (as-long e)) (omega arith) .0)
+  figures-in shortDayFirst e = (first-pair sep shortLength text (as-short e) (omega arith) .0, second-pair sep shortLength text (as-short e) (omega arith) .0)
+  figures-in shortMonthFirst e = (second-pair sep shortLength text (as-short e) (omega arith) .0, first-pair sep shortLength text (as-short e) (omega arith) .0)
+  figures-in shortYearFirst e = (third-pair sep shortLength text (as-short e) (omega arith) .0, second-pair sep shortLength text (as-short e) (omega arith) .0)
+
+-- a text of the shape has the length of some order
+shaped-order : (sep : ℕ → Bool) (text : List ℕ) → T (shapedDate sep text) → (o : Order) × (length text ≡ lengthOf o)
+shaped-order sep text h = elim (short-or-not text) [
+  | inl e ↦ (shortDayFirst, e)
+  | inr n ↦ (dayFirst, laid-length sep dateLength text (long-laid sep text (subst T (shaped-as-long text sep n) h)))
+]
+
+shaped-writing : (sep : ℕ → Bool) (text : List ℕ) → T (shapedDate sep text) → Writing sep text
+shaped-writing sep text h =
+    let w = shaped-order sep text h in
+    record {
+      order = w .0;
+      mark = getD text 2 0;
+      figures = readAs (w .0) text;
+      separates = mark-in sep text h (w .0) (w .1);
+      day = figures-in sep text h (w .0) (w .1) .0;
+      month = figures-in sep text h (w .0) (w .1) .1;
+      from = years-in sep text h (w .0) (w .1) .0;
+      upto = years-in sep text h (w .0) (w .1) .1;
+      writes = written-read sep text (w .0) (laid-in sep text h (w .0) (w .1));
+    }
+
+-- a writing has the shape
+
+short-shaped : (sep : ℕ → Bool) (text : List ℕ) → T (laidOut sep shortLength text) → T (shapedDate sep text)
+short-shaped sep text h = subst T (sym (shaped-as-short text sep (laid-length sep shortLength text h))) h
+
+long-shaped : (sep : ℕ → Bool) (text : List ℕ) → T (laidOut sep dateLength text) → firstYear ≤ yearIn text → yearIn text ≤ lastYear → T (shapedDate sep text)
+unfolding shapedLong
+long-shaped sep text h f u =
+    subst T (sym (shaped-as-long text sep (λ z. omega (arith, laid-length sep dateLength text h))))
+    (and-i (laidOut sep dateLength text) _ h (and-i (leb firstYear (yearIn text)) _ (le→leb _ _ f) (le→leb _ _ u)))
+
+written-shaped : (sep : ℕ → Bool) (o : Order) (s : ℕ) (t : Date) → T (sep s) → t .day < 100 → t .month < 100 → firstYear ≤ t .year → t .year ≤ lastYear → T (shapedDate sep (written o s t))
+unfolding readAs
+written-shaped sep o s t hs hd hm hf hu = go o (written-laid sep s t hs hd hm hf hu o) (ap (λ (d : Date). d .year) (read-written sep s t hs hd hm hf hu o))
+  where
+    go : (o : Order) → T (laidOut sep (lengthOf o) (written o s t)) → readAs o (written o s t) .year ≡ t .year → T (shapedDate sep (written o s t))
+    go dayFirst l e = long-shaped sep (written dayFirst s t) l (rw e hf) (rw e hu)
+    go monthFirst l e = long-shaped sep (written monthFirst s t) l (rw e hf) (rw e hu)
+    go shortDayFirst l e = short-shaped sep (written shortDayFirst s t) l
+    go shortMonthFirst l e = short-shaped sep (written shortMonthFirst s t) l
+    go shortYearFirst l e = short-shaped sep (written shortYearFirst s t) l
 
 -- a text has the shape exactly when it is the writing of two numbers of two digits and a year of the century
 pub shaped-iff : (sep : ℕ → Bool) (text : List ℕ) → T (shapedDate sep text) ↔ Writing sep text
@@ -233,7 +194,7 @@ days-length (t ∷ l) = go (real t) (days-length l)
     go true h = omega (arith, insert-length (dayOf t) (daysOf l))
     go false h = omega arith
 
-pub days-from : (l : List Date) (n : ℕ) → List·Memᴰ n (daysOf l) → (t : Date) × List·Memᴰ t l × T (real t) × (dayOf t ≡ n)
+days-from : (l : List Date) (n : ℕ) → List·Memᴰ n (daysOf l) → (t : Date) × List·Memᴰ t l × T (real t) × (dayOf t ≡ n)
 unfolding daysOf withReal
 days-from [] n m = absurd (List·Memᴰ·not-nil m)
 days-from (t ∷ l) n m = go (real t) (λ h. h) m (days-from l n)
@@ -252,7 +213,7 @@ days-from (t ∷ l) n m = go (real t) (λ h. h) m (days-from l n)
     go true r k f = pick (r tt) f (insert-has (dayOf t) n (daysOf l) k)
     go false r k f = further (f k)
 
-pub days-all : (l : List Date) (t : Date) → List·Memᴰ t l → T (real t) → List·Memᴰ (dayOf t) (daysOf l)
+days-all : (l : List Date) (t : Date) → List·Memᴰ t l → T (real t) → List·Memᴰ (dayOf t) (daysOf l)
 unfolding daysOf withReal
 days-all [] t m r = absurd (List·Memᴰ·not-nil m)
 days-all (u ∷ l) t m r = go (List·Memᴰ·cases-cons m) (days-all l t)
@@ -299,22 +260,51 @@ means-ascending sep text = go (shapedDate sep text)
 pub means-rises : (sep : ℕ → Bool) (text : List ℕ) (i j : ℕ) → i < j → j < length (means sep text) → getD (means sep text) i 0 < getD (means sep text) j 0
 means-rises sep text = ascending-places (means sep text) (means-ascending sep text)
 
-pub means-most : (sep : ℕ → Bool) (text : List ℕ) → length (means sep text) ≤ 2
+-- three at most, and two where the year has four digits
+pub means-most : (sep : ℕ → Bool) (text : List ℕ) → length (means sep text) ≤ datesMost
 unfolding means shown
-means-most sep text = go (shapedDate sep text)
+means-most sep text = go (shapedDate sep text) (isShort text)
+  where
+    go : (b c : Bool) → length (cond b (daysOf (cond c (readAs shortDayFirst text ∷ readAs shortMonthFirst text ∷ readAs shortYearFirst text ∷ []) (readAs dayFirst text ∷ readAs monthFirst text ∷ []))) []) ≤ datesMost
+    go true true = days-length (readAs shortDayFirst text ∷ readAs shortMonthFirst text ∷ readAs shortYearFirst text ∷ [])
+    go true false = omega (arith, days-length (readAs dayFirst text ∷ readAs monthFirst text ∷ []))
+    go false c = omega arith
+
+pub means-long-most : (sep : ℕ → Bool) (text : List ℕ) → (length text ≡ shortLength → ⊥) → length (means sep text) ≤ 2
+unfolding means
+means-long-most sep text n = go (shapedDate sep text)
   where
     go : (b : Bool) → length (cond b (daysOf (shown text)) []) ≤ 2
-    go true = days-length (shown text)
+    go true = rw (shown-long text n) (days-length (readAs dayFirst text ∷ readAs monthFirst text ∷ []))
     go false = omega arith
 
-shown-all : (o : Order) (text : List ℕ) → List·Memᴰ (readAs o text) (shown text)
-unfolding shown
-shown-all dayFirst text = List·Memᴰ·head refl
-shown-all monthFirst text = List·Memᴰ·tail (List·Memᴰ·head refl)
+shown-all : (o : Order) (text : List ℕ) → length text ≡ lengthOf o → List·Memᴰ (readAs o text) (shown text)
+shown-all dayFirst text e = rw (shown-long text (λ z. omega arith)) (List·Memᴰ·head refl)
+shown-all monthFirst text e = rw (shown-long text (λ z. omega arith)) (List·Memᴰ·tail (List·Memᴰ·head refl))
+shown-all shortDayFirst text e = rw (shown-short text e) (List·Memᴰ·head refl)
+shown-all shortMonthFirst text e = rw (shown-short text e) (List·Memᴰ·tail (List·Memᴰ·head refl))
+shown-all shortYearFirst text e = rw (shown-short text e) (List·Memᴰ·tail (List·Memᴰ·tail (List·Memᴰ·head refl)))
 
-shown-only : (t : Date) (text : List ℕ) → List·Memᴰ t (shown text) → (o : Order) × (t ≡ readAs o text)
-unfolding shown
-shown-only t text m = elim (List·Memᴰ·cases-cons m) [ inl e ↦ (dayFirst, e) | inr k ↦ (monthFirst, List·Memᴰ·eq-of-singleton k) ]
+shown-only : (sep : ℕ → Bool) (t : Date) (text : List ℕ) → T (shapedDate sep text) → List·Memᴰ t (shown text) → (o : Order) × (length text ≡ lengthOf o) × (t ≡ readAs o text)
+shown-only sep t text h m = elim (short-or-not text) [ inl e ↦ three e (rw (shown-short text e) at m) | inr n ↦ two n (rw (shown-long text n) at m) ]
+  where
+    Shows : Type 0
+    Shows = (o : Order) × (length text ≡ lengthOf o) × (t ≡ readAs o text)
+
+    three : length text ≡ shortLength → List·Memᴰ t (readAs shortDayFirst text ∷ readAs shortMonthFirst text ∷ readAs shortYearFirst text ∷ []) → Shows
+    three e k = elim (List·Memᴰ·cases-cons k) [
+      | inl d ↦ (shortDayFirst, e, d)
+      | inr l ↦ elim (List·Memᴰ·cases-cons l) [ inl d ↦ (shortMonthFirst, e, d) | inr r ↦ (shortYearFirst, e, List·Memᴰ·eq-of-singleton r) ]
+    ]
+
+    two : (length text ≡ shortLength → ⊥) → List·Memᴰ t (readAs dayFirst text ∷ readAs monthFirst text ∷ []) → Shows
+    two n k =
+        let e = laid-length sep dateLength text (long-laid sep text (subst T (shaped-as-long text sep n) h)) in
+        elim (List·Memᴰ·cases-cons k) [ inl d ↦ (dayFirst, e, d) | inr l ↦ (monthFirst, e, List·Memᴰ·eq-of-singleton l) ]
+
+-- a text is read in the orders of its length only: ten bytes in those of DT, eight in those of DS
+pub reading-length : {sep : ℕ → Bool} {text : List ℕ} {n : ℕ} (r : Reading sep text n) → length text ≡ lengthOf (r .order)
+reading-length r = ap length (sym (r .writes)) ∙ written-length (r .order) (r .mark) (r .meant)
 
 -- a number is among a text's days exactly when it is the day of a real date of which the text is the writing
 pub means-iff : (sep : ℕ → Bool) (text : List ℕ) (n : ℕ) → List·Memᴰ n (means sep text) ↔ Reading sep text n
@@ -324,8 +314,8 @@ means-iff sep text n = (there, back)
     there m =
         let h = means-shaped sep text n m in
         let w = days-from (shown text) n (rw (shaped-means sep text h) at m) in
-        let p = shown-only (w .0) text (w .1) in
-        rw (← w .3, p .1) (shaped-reading sep text h (p .0) (rw (p .1) at w.2))
+        let p = shown-only sep (w .0) text h (w .1) in
+        rw (← w .3, p .2) (shaped-reading sep text h (p .0) (p .1) (rw (p .2) at w.2))
 
     back : Reading sep text n → List·Memᴰ n (means sep text)
     back r =
@@ -333,5 +323,6 @@ means-iff sep text n = (there, back)
         let d : r .meant .day < 100 = omega (arith, month-most (r .meant .year) (r .meant .month)) in
         let m : r .meant .month < 100 = omega arith in
         let h = rw (r .writes) at (written-shaped sep (r .order) (r .mark) (r .meant) (r .separates) d m (r .ofCentury .from) (r .ofCentury .upto)) in
-        let e = rw (r .writes) at (read-written sep (r .order) (r .mark) (r .meant) (r .separates) d m (r .ofCentury .from) (r .ofCentury .upto)) in
-        rw (shaped-means sep text h, ← r .number, ← e) (days-all (shown text) (readAs (r .order) text) (shown-all (r .order) text) (rw e (r .ofCentury .isReal)))
+        let e = rw (r .writes) at (read-written sep (r .mark) (r .meant) (r .separates) d m (r .ofCentury .from) (r .ofCentury .upto) (r .order)) in
+        rw (shaped-means sep text h, ← r .number, ← e)
+        (days-all (shown text) (readAs (r .order) text) (shown-all (r .order) text (reading-length r)) (rw e (r .ofCentury .isReal)))

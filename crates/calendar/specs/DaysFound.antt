@@ -9,7 +9,8 @@ use Rattle.refusal.specs.Said.{refused}
 use Rattle.calendar.specs.declared.DateRead.{DateRead}
 use Rattle.calendar.specs.declared.found.Found.{Found}
 use Rattle.calendar.specs.Ascending.{ascending}
-use Rattle.calendar.specs.DateAnswers.{datesMost, padded, saidDate, daysSay}
+use Rattle.calendar.specs.DateText.{datesMost}
+use Rattle.calendar.specs.DateAnswers.{padded, saidDate, daysSay}
 
 -- f keeps the days l
 pub record Holds (l : List ℕ) (f : Found) : Type 0 where

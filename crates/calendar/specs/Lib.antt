@@ -4,6 +4,7 @@ pub mod Numbering
 pub mod Ascending
 pub mod AscendingLaws
 pub mod DateText
+pub mod WritingLaws
 pub mod DateTextLaws
 pub mod DateAnswers
 pub mod DaysFound

@@ -1,8 +1,10 @@
 // The bytes of a date text: where its digits and separators stand, and the numbers in it.
 ghost use mathlib.Core.Path.{_≡_};
+ghost use mathlib.Core.Bool.{_&&_};
 ghost use Prim.Native.Nat.{_+_, _-_, _≤_, _<_};
-ghost use lib.ListN.{length};
-ghost use Rattle.calendar.specs.DateText.{dateLength, separator, pairAt, yearIn, digit, fitsAt, laidOut, shapedDate};
+ghost use lib.ListN.{length, getD};
+ghost use Rattle.theory.specs.Bound.{all};
+ghost use Rattle.calendar.specs.DateText.{dateLength, shortLength, separator, pairAt, yearIn, digit, fitsAt, laidOut, shapedLong};
 use crate::DATE_LENGTH;
 use crate::gregorian::FIRST_YEAR;
 use crate::gregorian::LAST_YEAR;
@@ -20,32 +22,41 @@ fn is_digit(b: u8) -> bool
     b'0' <= b && b <= b'9'
 }
 
-// What stands at place `i` is in order.
-fn fits_at(text: &[u8], i: usize) -> bool
-    requires { ⌜ i < length (now text) ⌝ }
-    ensures { λ r. ⌜ r ≡ fitsAt separator (now (text .entry)) i ⌝ }
+// The two bytes from place `i` on.
+fn digits_at(text: &[u8], i: usize) -> bool
+    requires { ⌜ i + 1 < length (now text) ⌝ }
+    ensures { λ r. ⌜ r ≡ (digit (getD (now (text .entry)) i 0) && digit (getD (now (text .entry)) (i + 1) 0)) ⌝ }
 {
-    match i {
-        2 | 5 => separates(text[i]) && text[i] == text[2],
-        _ => is_digit(text[i]),
-    }
+    is_digit(text[i]) && is_digit(text[i + 1])
 }
 
-// The text has `n` bytes, each in order.
-fn laid_out(text: &[u8], n: usize) -> bool
-    ensures { λ r. ⌜ r ≡ laidOut separator n (now (text .entry)) ⌝ }
+// The first eight bytes, alike in both kinds of text, are in order; one place after the other, since a
+// loop over them would ask at each turn which kind of place it is at.
+fn front_fits(text: &[u8]) -> bool
+    requires { ⌜ shortLength ≤ length (now text) ⌝ }
+    ensures { λ r. ⌜ r ≡ all shortLength (fitsAt separator (now (text .entry))) ⌝ }
 {
-    if text.len() != n {
+    if !separates(text[2]) {
         return false;
     }
-    let mut i = 0;
-    while i < n {
-        if !fits_at(text, i) {
-            return false;
-        }
-        i += 1;
+    if text[5] != text[2] {
+        return false;
     }
-    true
+    if !digits_at(text, 0) {
+        return false;
+    }
+    if !digits_at(text, 3) {
+        return false;
+    }
+    digits_at(text, 6)
+}
+
+// The shape of a text with a year of two digits.
+pub(crate) fn shaped_short(text: &[u8]) -> bool
+    requires { ⌜ length (now text) ≡ shortLength ⌝ }
+    ensures { λ r. ⌜ r ≡ laidOut separator shortLength (now (text .entry)) ⌝ }
+{
+    front_fits(text)
 }
 
 // A digit's number; 0 below the digits.
@@ -63,7 +74,7 @@ pub(crate) fn pair_at(text: &[u8], i: usize) -> u32
     value(text[i]) * 10 + value(text[i + 1])
 }
 
-// The year of a text.
+// The year of four digits.
 pub(crate) fn year_in(text: &[u8]) -> u32
     requires { ⌜ dateLength ≤ length (now text) ⌝ }
     ensures { λ r. ⌜ r ≡ yearIn (now (text .entry)) ⌝ }
@@ -71,11 +82,17 @@ pub(crate) fn year_in(text: &[u8]) -> u32
     pair_at(text, 6) * 100 + pair_at(text, 8)
 }
 
-// The shape of a date text, and a year of the century.
-pub(crate) fn shaped(text: &[u8]) -> bool
-    ensures { λ r. ⌜ r ≡ shapedDate separator (now (text .entry)) ⌝ }
+// The shape of a text with a year of four digits, and that a year of the century.
+pub(crate) fn shaped_long(text: &[u8]) -> bool
+    ensures { λ r. ⌜ r ≡ shapedLong separator (now (text .entry)) ⌝ }
 {
-    if !laid_out(text, DATE_LENGTH) {
+    if text.len() != DATE_LENGTH {
+        return false;
+    }
+    if !front_fits(text) {
+        return false;
+    }
+    if !digits_at(text, 8) {
         return false;
     }
     let y = year_in(text);

@@ -3,16 +3,21 @@ mod found;
 mod gregorian;
 mod layout;
 
-ghost use Rattle.calendar.specs.DateText.{separator};
+ghost use mathlib.Core.Path.{_≡_};
+ghost use lib.ListN.{length};
+ghost use Rattle.calendar.specs.DateText.{separator, shortLength};
 ghost use Rattle.calendar.specs.DateAnswers.{ReadsDate};
 ghost use Rattle.calendar.specs.DaysFound.{Answers, Refuses, Holds, held};
 use crate::found::Found;
+use crate::gregorian::FIRST_YEAR;
 use refusal::Refusal;
 
-// The bytes of a date text, and how many dates it shows at most.
+// The bytes of a date text, those of a short one, and how many dates a text shows at most.
 pub const DATE_LENGTH: usize = 10;
 
-pub const DATES: usize = 2;
+pub const SHORT_LENGTH: usize = 8;
+
+pub const DATES: usize = 3;
 
 // The number of 31 December 2099.
 pub const LAST_DAY: u16 = 36524;
@@ -55,11 +60,12 @@ fn answered(found: Found) -> DateRead
     }
 }
 
-// The days that a text can mean.
-pub fn read_date(text: &[u8]) -> DateRead
+// Any other length, of which only that of DT is right: the year has four digits and comes last.
+fn read_long(text: &[u8]) -> DateRead
+    requires { ⌜ (length (now text) ≡ shortLength → ⊥) ⌝ }
     ensures { λ r. ⌜ ReadsDate separator (now (text .entry)) r ⌝ }
 {
-    if !layout::shaped(text) {
+    if !layout::shaped_long(text) {
         return refused(Refusal::Shapeless);
     }
     let y = layout::year_in(text);
@@ -67,4 +73,30 @@ pub fn read_date(text: &[u8]) -> DateRead
     let b = layout::pair_at(text, 3);
     let month_first = found::with_reading(found::nothing(), y, a, b);
     answered(found::with_reading(month_first, y, b, a))
+}
+
+// DS: the year has two digits and comes last or first.
+fn read_short(text: &[u8]) -> DateRead
+    requires { ⌜ length (now text) ≡ shortLength ⌝ }
+    ensures { λ r. ⌜ ReadsDate separator (now (text .entry)) r ⌝ }
+{
+    if !layout::shaped_short(text) {
+        return refused(Refusal::Shapeless);
+    }
+    let a = layout::pair_at(text, 0);
+    let b = layout::pair_at(text, 3);
+    let c = layout::pair_at(text, 6);
+    let year_first = found::with_reading(found::nothing(), FIRST_YEAR + a, b, c);
+    let month_first = found::with_reading(year_first, FIRST_YEAR + c, a, b);
+    answered(found::with_reading(month_first, FIRST_YEAR + c, b, a))
+}
+
+// The days that a text can mean: eight bytes are DS, and of any other length only ten are right.
+pub fn read_date(text: &[u8]) -> DateRead
+    ensures { λ r. ⌜ ReadsDate separator (now (text .entry)) r ⌝ }
+{
+    if text.len() == SHORT_LENGTH {
+        return read_short(text);
+    }
+    read_long(text)
 }

@@ -4,7 +4,7 @@ use mathlib.Core.Bool.{Bool}
 use mathlib.Core.List.{List, [], _∷_, _++_}
 use Prim.Native.Nat.{ℕ, zero, suc, _-_}
 use native.Mathlib.Omega.{arith}
-use lib.ListN.{length, getD, replicate, List·getD-eq-default}
+use lib.ListN.{length, getD, replicate}
 use borrow.Author.Tests.{ne-eqb}
 use Rattle.refusal.specs.declared.Refusal.{Refusal}
 use Rattle.refusal.specs.declared.Printed.{Printed}
@@ -13,9 +13,8 @@ use Rattle.refusal.specs.RefusalLaws.{numbered}
 use Rattle.refusal.specs.Print.{Prints}
 use Rattle.refusal.specs.Said.{Said, refused}
 use Rattle.calendar.specs.declared.DateRead.{DateRead}
-use Rattle.calendar.specs.DateText.{means}
-use Rattle.calendar.specs.DateTextLaws.{means-most}
-use Rattle.calendar.specs.DateAnswers.{datesMost, saidDate, dateSays, ReadsDate}
+use Rattle.calendar.specs.DateText.{datesMost, means}
+use Rattle.calendar.specs.DateAnswers.{saidDate, dateSays, ReadsDate}
 use Rattle.choose.specs.declared.Choice.{Choice}
 use Rattle.choose.specs.declared.Choice.the-variants.{Chosen, Refused}
 use Rattle.choose.specs.Answers.{saidChoice, Chooses}
@@ -54,7 +53,7 @@ padded-at (x ∷ l) k (suc p) = padded-at l k p
 
 -- the days of a date text are packed as they are meant, with what is said of them
 pub date-packed : (sep : ℕ → Bool) (text : List ℕ) (r : DateRead) {a : ℕ} → ReadsDate sep text r
-    → a ≡ packedSaid (asDays (getD (r .days) 0 0 ∷ getD (r .days) 1 0 ∷ [])) (saidDate (r .answer))
+    → a ≡ packedSaid (asDays (getD (r .days) 0 0 ∷ getD (r .days) 1 0 ∷ getD (r .days) 2 0 ∷ [])) (saidDate (r .answer))
     → a ≡ packedSaid (asDays (means sep text)) (dateSays sep text)
 date-packed sep text r {a} p e = said-packed (asDays l) (p .said) (e ∙ alike (saidDate (r .answer)))
   where
@@ -64,11 +63,8 @@ date-packed sep text r {a} p e = said-packed (asDays l) (p .said) (e ∙ alike (
     at : (k : ℕ) → getD (r .days) k 0 ≡ getD l k 0
     at k = ap (λ (d : List ℕ). getD d k 0) (p .days) ∙ padded-at l (datesMost - length l) k
 
-    past : getD l 2 0 ≡ 0
-    past = List·getD-eq-default l 0 (means-most sep text)
-
-    alike : (s : Said) → packedSaid (asDays (getD (r .days) 0 0 ∷ getD (r .days) 1 0 ∷ [])) s ≡ packedSaid (asDays l) s
-    alike s = rw (at 0, at 1, past)
+    alike : (s : Said) → packedSaid (asDays (getD (r .days) 0 0 ∷ getD (r .days) 1 0 ∷ getD (r .days) 2 0 ∷ [])) s ≡ packedSaid (asDays l) s
+    alike s = rw (at 0, at 1, at 2)
 
 -- choosing, packed
 pub choice-packed : {sizes t fixed before after : List ℕ} (r : Choice) {a : ℕ} → Chooses sizes t fixed before after r → a ≡ packedSaid asValues (saidChoice r) → PacksChoice sizes t fixed before a after

@@ -32,7 +32,7 @@ use Rattle.settle.specs.Settle.{relOf, GoodLent, afterLent, roundsSay, settleSa
 use Rattle.settle.specs.SettleLaws.{check-lent, says-settled, says-unfinished}
 use Rattle.choose.specs.Choosing.{choiceOf, badFixed, afterEmpty, afterFixed, afterClash, chooseSays, afterLent as lentChoice}
 use Rattle.calendar.specs.Calendar.{lastDay}
-use Rattle.calendar.specs.DateText.{shapedDate, means}
+use Rattle.calendar.specs.DateText.{datesMost, shapedDate, means}
 use Rattle.calendar.specs.DateTextLaws.{means-most}
 use Rattle.calendar.specs.DateAnswers.{daysSay, dateSays}
 use Rattle.calendar.specs.DateAnswersLaws.{means-within}
@@ -232,7 +232,7 @@ pub date-fits : (sep : ℕ → Bool) (text : List ℕ) → Fits OfCount (dateSay
 unfolding dateSays
 date-fits sep text = fits-test OfCount (shapedDate sep text) (daysSay (means sep text)) (says 19 []) (λ _. counted (means sep text) (means-most sep text)) (fits-refusal OfCount 19 [] (omega arith) (omega arith) none-short)
   where
-    counted : (l : List ℕ) → length l ≤ 2 → Fits OfCount (daysSay l)
+    counted : (l : List ℕ) → length l ≤ datesMost → Fits OfCount (daysSay l)
     counted [] h = fits-refusal OfCount 20 [] (omega arith) (omega arith) none-short
     counted (x ∷ l) h = inl (refl, (length (x ∷ l), refl, omega arith))
 

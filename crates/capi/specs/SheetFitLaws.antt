@@ -10,11 +10,11 @@ use lib.ListN.{length, take, drop}
 use Rattle.theory.specs.Limits.{fieldsMost, readingsMost}
 use Rattle.refusal.specs.Said.{Said, says}
 use Rattle.calendar.specs.Ascending.{ascending}
-use Rattle.calendar.specs.DateText.{means}
+use Rattle.calendar.specs.DateText.{dateLength, shortLength, means}
 use Rattle.calendar.specs.DateAnswers.{dateSays}
 use Rattle.table.specs.Layout.{tabulate}
 use Rattle.scan.specs.declared.mark.Mark.{Mark}
-use Rattle.scan.specs.declared.mark.Mark.the-variants.{Date, Days, Gap, Strike, End, Unknown}
+use Rattle.scan.specs.declared.mark.Mark.the-variants.{Date, Short, Days, Gap, Strike, End, Unknown}
 use Rattle.scan.specs.Answer.{scanSays}
 use Rattle.scan.specs.Sheet.{byteAt, numberAt, raised, Record, field, gap, strike, fieldsOf, Told, told, Step, more, done, stop, check, adds, early, dateAt, daysAt, gapRight, gapAt, strikeRight, strikeAt, endAt, markOf, byMark, stepAt, Scanned, whole, faulty, onward, scanFrom, scan}
 use Rattle.scan.specs.SheetLaws.{step-forward}
@@ -48,12 +48,12 @@ module _ (sep : ℕ → Bool) (t : Told) (s : List ℕ) (at : ℕ) (h : at < 655
   fits-text zero r n b = fits-more r n
   fits-text (suc k) r n b = rw (eqb·suc-zero k) (fits-said (says (suc k) (at ∷ [])) (fits-stop (suc k) (omega arith) b))
 
-  fits-date : StopFits (dateAt sep s at)
+  fits-date : (size : ℕ) → StopFits (dateAt sep size s at)
   unfolding dateAt
-  fits-date =
-      let text = take 10 (drop (at + 2) s) in
-      fits-check (leb (at + 12) (length s)) 15 _ (omega arith) (omega arith)
-      (fits-text (dateSays sep text .state) (field (means sep text)) (at + 12) (state-small (dateSays sep text) (date-fits sep text)))
+  fits-date size =
+      let text = take size (drop (at + 2) s) in
+      fits-check (leb (at + 2 + size) (length s)) 15 _ (omega arith) (omega arith)
+      (fits-text (dateSays sep text .state) (field (means sep text)) (at + 2 + size) (state-small (dateSays sep text) (date-fits sep text)))
     where
       state-small : (p : Said) → Fits OfCount p → p .state < 256
       state-small p (inl e) = omega (arith, e .0)
@@ -106,7 +106,8 @@ module _ (sep : ℕ → Bool) (t : Told) (s : List ℕ) (at : ℕ) (h : at < 655
       (fits-check (ltb (length (t .sizes)) fieldsMost) 18 x (omega arith) (omega arith) f)
 
   fits-mark : (m : Mark) → StopFits (byMark sep m t s at)
-  fits-mark Date = fits-added (dateAt sep s at) fits-date
+  fits-mark Date = fits-added (dateAt sep dateLength s at) (fits-date dateLength)
+  fits-mark Short = fits-added (dateAt sep shortLength s at) (fits-date shortLength)
   fits-mark Days = fits-added (daysAt s at) fits-days
   fits-mark Gap = fits-gap
   fits-mark Strike = fits-strike

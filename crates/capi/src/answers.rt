@@ -20,12 +20,18 @@ ghost use Rattle.scan.specs.Answer.{saidOpened};
 ghost use Rattle.capi.specs.Packed.{packedSaid, asValues, asDays, asSettling, asRows, asShown};
 
 pub fn date(read: DateRead) -> u64
-    ensures { λ r. ⌜ r ≡ packedSaid (asDays (getD (read .days) 0 0 ∷ getD (read .days) 1 0 ∷ [])) (saidDate (read .answer)) ⌝ }
+    ensures { λ r. ⌜ r ≡ packedSaid (asDays (getD (read .days) 0 0 ∷ getD (read .days) 1 0 ∷ getD (read .days) 2 0 ∷ [])) (saidDate (read .answer)) ⌝ }
 {
     let days = read.days;
     let answer = read.answer;
     match answer {
-        DateAnswer::Days(count) => pack(0, count, days[0] as usize, days[1] as usize, 0),
+        DateAnswer::Days(count) => pack(
+            0,
+            count,
+            days[0] as usize,
+            days[1] as usize,
+            days[2] as usize,
+        ),
         DateAnswer::Refused(r) => refused(r),
     }
 }

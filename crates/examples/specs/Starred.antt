@@ -1,4 +1,4 @@
--- The starred examples of 01 ("Examples, those with * proved"): what each claims of the entry points, and the table of them.
+-- The starred examples of 01 ("Examples, those with * proved") and that of a year in two digits: what each claims of the entry points, and the table of them.
 use mathlib.Core.Path.{_≡_}
 use mathlib.Core.Bool.{Bool, true, false, cond, not, _&&_, _||_}
 use mathlib.Core.List.{List, [], _∷_, _++_, flatMap, map}
@@ -254,4 +254,5 @@ starred =
     ∷ reading "13/02/2024" (8809 ∷ [])
     ∷ reading "05/05/2024" (8891 ∷ [])
     ∷ reading "29/02/2024" (8825 ∷ [])
+    ∷ reading "02/03/04" (793 ∷ 1494 ∷ 1522 ∷ [])
     ∷ []

@@ -10,7 +10,7 @@ use Rattle.theory.specs.Choice.{put, left, walk, clash, clashFrom, clashTo}
 use Rattle.words.specs.Word.{bit, pack}
 use Rattle.calendar.specs.Calendar.{leap, months, monthLength, yearLength, real, dayOf}
 use Rattle.calendar.specs.Ascending.{insert}
-use Rattle.calendar.specs.DateText.{separator, pairAt, yearIn, readAs, digit, fitsAt, laidOut, shapedDate, withReal, daysOf, shown, means}
+use Rattle.calendar.specs.DateText.{separator, pairAt, yearIn, shortYearAt, readAs, digit, fitsAt, laidOut, shapedLong, shapedDate, withReal, daysOf, shown, means}
 use Rattle.calendar.specs.DateAnswers.{dateSays}
 use Rattle.table.specs.Layout.{searchRow, sizeOf}
 use Rattle.table.specs.Shape.{badSize, afterSizes}
@@ -23,7 +23,7 @@ use Rattle.examples.specs.TrialLaws.{every-e, holds-in}
 starred-computed : T (every holdsOf starred)
 unfolding
     all any first sum count composed round holds empty stands stable put left walk clash clashFrom clashTo bit pack
-    leap months monthLength yearLength real dayOf insert separator pairAt yearIn readAs digit fitsAt laidOut shapedDate withReal daysOf shown means dateSays
+    leap months monthLength yearLength real dayOf insert separator pairAt yearIn shortYearAt readAs digit fitsAt laidOut shapedLong shapedDate withReal daysOf shown means dateSays
     searchRow sizeOf badSize afterSizes afterEmpty afterFixed afterClash flatMap
     bytes daysIn sizesOf gapsOf follows rule opened those packed unpacked after takes wholeIn brokenIn full someFull
     same sameList sameSaid every most brokenSays rowsIn choosingSays saysIn choosingIn keepsIn resultIn openedIn caseIn holdsOf

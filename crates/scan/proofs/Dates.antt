@@ -12,9 +12,9 @@ use Rattle.refusal.specs.Said.{Said, says, refused}
 use Rattle.refusal.specs.RefusalLaws.{numbered}
 use Rattle.refusal.specs.declared.Refusal.{Refusal}
 use Rattle.theory.specs.Limits.{readingsMost}
-use Rattle.calendar.specs.DateText.{means}
+use Rattle.calendar.specs.DateText.{datesMost, means}
 use Rattle.calendar.specs.DateTextLaws.{means-most}
-use Rattle.calendar.specs.DateAnswers.{datesMost, saidDate, dateSays, ReadsDate}
+use Rattle.calendar.specs.DateAnswers.{saidDate, dateSays, ReadsDate}
 use Rattle.calendar.specs.DateAnswersLaws.{reads-days, reads-refused}
 use Rattle.calendar.specs.declared.DateRead.{DateRead}
 use Rattle.calendar.specs.declared.DateAnswer.the-variants.{Days, Refused}
@@ -35,43 +35,43 @@ date-number {sep} {text} {r} reads q e = elim (reads-refused sep text r reads q 
 
 -- its record
 
-module _ (sep : ℕ → Bool) (s : List ℕ) (at : ℕ) where
+module _ (sep : ℕ → Bool) (size : ℕ) (s : List ℕ) (at : ℕ) where
   -- the text of a date record
   abbrev text : List ℕ
-  text = take 10 (drop (at + 2) s)
+  text = take size (drop (at + 2) s)
 
   -- .. as the bytes from its start to its end
   abbrev part : List ℕ
-  part = take (at + 12 - (at + 2)) (drop (at + 2) s)
+  part = take (at + 2 + size - (at + 2)) (drop (at + 2) s)
 
-  ten : part ≡ text
-  ten = let e : at + 12 - (at + 2) ≡ 10 = omega arith in rw e
+  whole : part ≡ text
+  whole = let e : at + 2 + size - (at + 2) ≡ size = omega arith in rw e
 
-  pub date-cut : length s < at + 12 → dateAt sep s at ≡ stop (says 15 (at ∷ []))
+  pub date-cut : length s < at + 2 + size → dateAt sep size s at ≡ stop (says 15 (at ∷ []))
   unfolding dateAt
-  date-cut h = simp (lt-leb (at + 12) (length s) h)
+  date-cut h = simp (lt-leb (at + 2 + size) (length s) h)
 
-  module _ {r : DateRead} (reads : ReadsDate sep (take (at + 12 - (at + 2)) (drop (at + 2) s)) r) where
+  module _ {r : DateRead} (reads : ReadsDate sep (take (at + 2 + size - (at + 2)) (drop (at + 2) s)) r) where
     meant : ReadsDate sep text r
-    meant = subst (λ (l : List ℕ). ReadsDate sep l r) ten reads
+    meant = subst (λ (l : List ℕ). ReadsDate sep l r) whole reads
 
-    right : at + 12 ≤ length s → (k : ℕ) → r .answer ≡ Days k → dateAt sep s at ≡ more (field (means sep text)) (at + 12)
+    right : at + 2 + size ≤ length s → (k : ℕ) → r .answer ≡ Days k → dateAt sep size s at ≡ more (field (means sep text)) (at + 2 + size)
     unfolding dateAt
     right h k e =
         let p : dateSays sep text .state ≡ 0 = ap (λ (x : Said). x .state) (sym (meant .said) ∙ ap saidDate e) in
-        simp (le-leb (at + 12) (length s) h, p)
+        simp (le-leb (at + 2 + size) (length s) h, p)
 
-    pub date-right : at + 12 ≤ length s → (k : ℕ) → r .answer ≡ Days k → (l : List ℕ) → l ≡ r .days ++ replicate (readingsMost - datesMost) 0 → ReadsField (dateAt sep s at) (record { verdict = Field k (at + 12); days = l })
+    pub date-right : at + 2 + size ≤ length s → (k : ℕ) → r .answer ≡ Days k → (l : List ℕ) → l ≡ r .days ++ replicate (readingsMost - datesMost) 0 → ReadsField (dateAt sep size s at) (record { verdict = Field k (at + 2 + size); days = l })
     date-right h k e l d =
         reads-as (right h k e)
-        (adds-field (means sep text) l k (at + 12) (sym (reads-days sep text r meant k e .1))
+        (adds-field (means sep text) l k (at + 2 + size) (sym (reads-days sep text r meant k e .1))
         (d ∙ rw (meant .days) (padded-wide (means sep text) (means-most sep text))))
 
-    wrong : at + 12 ≤ length s → (q : Refusal) → r .answer ≡ Refused q → dateAt sep s at ≡ stop (says (number q) (at ∷ []))
+    wrong : at + 2 + size ≤ length s → (q : Refusal) → r .answer ≡ Refused q → dateAt sep size s at ≡ stop (says (number q) (at ∷ []))
     unfolding dateAt
     wrong h q e =
         let p : dateSays sep text .state ≡ number q = ap (λ (x : Said). x .state) (sym (meant .said) ∙ ap saidDate e) in
-        simp (le-leb (at + 12) (length s) h, p, ne-eqb (number q) 0 (λ z. omega (arith, numbered q)))
+        simp (le-leb (at + 2 + size) (length s) h, p, ne-eqb (number q) 0 (λ z. omega (arith, numbered q)))
 
-    pub date-wrong : at + 12 ≤ length s → (q p : Refusal) → r .answer ≡ Refused q → refused p ≡ says (number q) (at ∷ []) → {f : FieldRead} → ReadsField (stop (refused p)) f → ReadsField (dateAt sep s at) f
+    pub date-wrong : at + 2 + size ≤ length s → (q p : Refusal) → r .answer ≡ Refused q → refused p ≡ says (number q) (at ∷ []) → {f : FieldRead} → ReadsField (stop (refused p)) f → ReadsField (dateAt sep size s at) f
     date-wrong h q p e w = reads-as (wrong h q e ∙ ap stop (sym w))

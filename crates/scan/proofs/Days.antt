@@ -14,7 +14,8 @@ use Rattle.theory.specs.Limits.{readingsMost}
 use Rattle.theory.specs.BoundLaws.{T-ext, all-i, all-e}
 use Rattle.calendar.specs.Calendar.{lastDay}
 use Rattle.calendar.specs.Ascending.{ascending, risesFrom}
-use Rattle.calendar.specs.DateAnswers.{padded, datesMost}
+use Rattle.calendar.specs.DateText.{datesMost}
+use Rattle.calendar.specs.DateAnswers.{padded}
 use Rattle.table.specs.Layout.{tabulate}
 use Rattle.table.specs.LayoutLaws.{length-tabulate}
 use Rattle.scan.specs.Sheet.{early}

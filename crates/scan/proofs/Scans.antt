@@ -9,10 +9,11 @@ use lib.ListN.{length, set, take, replicate, length-set, length-map}
 use lib.Seq.{length-take-le, take-suc-set}
 use Rattle.refusal.specs.Said.{Said, says}
 use Rattle.theory.specs.Limits.{fieldsMost}
+use Rattle.calendar.specs.DateText.{dateLength, shortLength}
 use Rattle.scan.specs.Sheet.{Record, field, gap, strike, fieldsOf, Told, told, Step, more, done, stop, dateAt, daysAt, byMark, numberAt, markOf, stepAt, scan}
 use Rattle.scan.specs.RecordLaws.{isPair, told-field, told-pair, told-sizes}
 use Rattle.scan.specs.declared.mark.Mark.{Mark}
-use Rattle.scan.specs.declared.mark.Mark.the-variants.{Date, Days, Gap, Strike, End, Unknown}
+use Rattle.scan.specs.declared.mark.Mark.the-variants.{Date, Short, Days, Gap, Strike, End, Unknown}
 use Rattle.scan.specs.SheetLaws.{adds-more, gap-stands, strike-stands, end-no-more, step-more, step-forward, scanOn, scan-on, scan-more, scan-done, scan-stop}
 use Rattle.scan.specs.Answer.{scanSays}
 use Rattle.scan.specs.Judging.{adds, rules, ends, stops, gist}
@@ -74,7 +75,7 @@ module _ {sep : ℕ → Bool} {s : List ℕ} {at n : ℕ} {late : Bool} {sizes :
   length-told : length (take n sizes) ≡ n
   length-told = length-take-le n sizes (omega (arith, i .few, i .long))
 
-  -- DT and FD
+  -- DT, DS and FD
 
   module _ (k next : ℕ) (e : adds k next ≡ gist (stepAt sep (record { sizes = take n sizes; late = late }) s at)) where
     found : (d : List ℕ) × (here ≡ more (field d) next) × (length d ≡ k)
@@ -84,7 +85,8 @@ module _ {sep : ℕ → Bool} {s : List ℕ} {at n : ℕ} {late : Bool} {sizes :
     field-room = go (markOf (numberAt s at)) (step-more sep state s at (field (found .0)) next (found .1) .1)
       where
         go : (m : Mark) → byMark sep m state s at ≡ more (field (found .0)) next → n < fieldsMost
-        go Date f = omega (arith, adds-more state at (dateAt sep s at) (field (found .0)) next f .1, length-told)
+        go Date f = omega (arith, adds-more state at (dateAt sep dateLength s at) (field (found .0)) next f .1, length-told)
+        go Short f = omega (arith, adds-more state at (dateAt sep shortLength s at) (field (found .0)) next f .1, length-told)
         go Days f = omega (arith, adds-more state at (daysAt s at) (field (found .0)) next f .1, length-told)
         go Gap f = absurd (let p = gap-stands (take n sizes) s at (field (found .0)) next f .is in let z : _≡_ {A = ℕ} 0 1 = cc p in omega arith)
         go Strike f = absurd (let p = strike-stands (take n sizes) s at (field (found .0)) next f .is in let z : _≡_ {A = ℕ} 0 1 = cc p in omega arith)

@@ -6,10 +6,11 @@ use Prim.Native.Nat.{ℕ, _+_}
 use lib.ListN.{length}
 use Rattle.refusal.specs.Said.{Said, refused}
 use Rattle.theory.specs.Limits.{readingsMost}
+use Rattle.calendar.specs.DateText.{dateLength, shortLength}
 use Rattle.calendar.specs.DateAnswers.{padded}
 use Rattle.scan.specs.Sheet.{byteAt, numberAt, raised, field, gap, strike, Step, more, done, stop, dateAt, daysAt}
 use Rattle.scan.specs.declared.mark.Mark.{Mark}
-use Rattle.scan.specs.declared.mark.Mark.the-variants.{Date, Days, Gap, Strike, Unknown}
+use Rattle.scan.specs.declared.mark.Mark.the-variants.{Date, Short, Days, Gap, Strike, Unknown}
 use Rattle.scan.specs.declared.field.FieldRead.{FieldRead}
 use Rattle.scan.specs.declared.record.Interval.{Interval}
 use Rattle.scan.specs.declared.record.Pair.{Pair}
@@ -51,9 +52,10 @@ gistOf (Rule next) = rules next
 gistOf Verdict.End = ends
 gistOf (Stop r) = stops (refused r)
 
--- the field that a record with this mark adds: DT by its text, else FD's list
+-- the field that a record with this mark adds: DT and DS by their text, else FD's list
 abbrev pub fieldBy : (ℕ → Bool) → Mark → List ℕ → ℕ → Step
-fieldBy sep Date sheet at = dateAt sep sheet at
+fieldBy sep Date sheet at = dateAt sep dateLength sheet at
+fieldBy sep Short sheet at = dateAt sep shortLength sheet at
 fieldBy sep Days sheet at = daysAt sheet at
 fieldBy sep Gap sheet at = daysAt sheet at
 fieldBy sep Strike sheet at = daysAt sheet at

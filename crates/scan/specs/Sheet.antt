@@ -2,7 +2,7 @@
 -- Which bytes separate the parts of a date text is a parameter, `sep`.
 use mathlib.Core.Bool.{Bool, true, false, cond, not, _&&_, _||_}
 use mathlib.Core.List.{List, [], _∷_, _++_, map}
-use Prim.Native.Nat.{ℕ, zero, suc, _+_, _-_, _*_, _%_}
+use Prim.Native.Nat.{ℕ, zero, suc, _+_, _*_, _%_}
 use lib.Dec.{leb, ltb, eqb}
 use lib.ListN.{length, getD, take, drop}
 use Rattle.refusal.specs.Said.{Said, says}
@@ -10,11 +10,11 @@ use Rattle.theory.specs.Limits.{fieldsMost, readingsMost}
 use Rattle.theory.specs.Bound.{all}
 use Rattle.calendar.specs.Calendar.{lastDay}
 use Rattle.calendar.specs.Ascending.{ascending}
-use Rattle.calendar.specs.DateText.{means}
+use Rattle.calendar.specs.DateText.{dateLength, shortLength, means}
 use Rattle.calendar.specs.DateAnswers.{dateSays}
 use Rattle.table.specs.Layout.{tabulate}
 use Rattle.scan.specs.declared.mark.Mark.{Mark}
-use Rattle.scan.specs.declared.mark.Mark.the-variants.{Date, Days, Gap, Strike, End, Unknown}
+use Rattle.scan.specs.declared.mark.Mark.the-variants.{Date, Short, Days, Gap, Strike, End, Unknown}
 
 -- numbers
 
@@ -31,7 +31,7 @@ raised u = (u + 32768) % 65536
 
 -- records
 
--- what a record says: DT and FD the days of the next field, GP and PR a rule for two fields, lo and hi raised
+-- what a record says: DT, DS and FD the days of the next field, GP and PR a rule for two fields, lo and hi raised
 pub data Record : Type 0 where
   field : (days : List ℕ) → Record
   gap : (i j lo hi : ℕ) → Record
@@ -76,17 +76,17 @@ check false k at s = stop (says k (at ∷ []))
 abbrev pub there : List ℕ → ℕ → ℕ → Step → Step
 there sheet at to s = check (leb to (length sheet)) 15 at s
 
--- DT and FD add a field
+-- DT, DS and FD add a field
 abbrev pub adds : Told → ℕ → Step → Step
 adds t at s = check (not (t .late)) 17 at (check (ltb (length (t .sizes)) fieldsMost) 18 at s)
 
--- DT: a date text of ten bytes, whose refusal gets the record's place
-unfoldable pub dateAt : (ℕ → Bool) → List ℕ → ℕ → Step
-dateAt sep sheet at =
-    let text = take 10 (drop (at + 2) sheet) in
+-- DT and DS: a date text of so many bytes, whose refusal gets the record's place
+unfoldable pub dateAt : (ℕ → Bool) → (size : ℕ) → List ℕ → ℕ → Step
+dateAt sep size sheet at =
+    let text = take size (drop (at + 2) sheet) in
     let state = dateSays sep text .state in
-    there sheet at (at + 12)
-    (cond (eqb state 0) (more (field (means sep text)) (at + 12)) (stop (says state (at ∷ []))))
+    there sheet at (at + 2 + size)
+    (cond (eqb state 0) (more (field (means sep text)) (at + 2 + size)) (stop (says state (at ∷ []))))
 
 -- no day is over the last
 unfoldable pub early : List ℕ → Bool
@@ -150,14 +150,16 @@ endAt sizes sheet at = cond (ltb 0 (length sizes)) (check (eqb (length sheet) (a
 unfoldable pub markOf : ℕ → Mark
 markOf m =
     cond (eqb m 0x4454) Date
+    (cond (eqb m 0x4453) Short
     (cond (eqb m 0x4644) Days
     (cond (eqb m 0x4750) Gap
     (cond (eqb m 0x5052) Strike
     (cond (eqb m 0x454e) End
-    Unknown))))
+    Unknown)))))
 
 abbrev pub byMark : (ℕ → Bool) → Mark → Told → List ℕ → ℕ → Step
-byMark sep Date t sheet at = adds t at (dateAt sep sheet at)
+byMark sep Date t sheet at = adds t at (dateAt sep dateLength sheet at)
+byMark sep Short t sheet at = adds t at (dateAt sep shortLength sheet at)
 byMark sep Days t sheet at = adds t at (daysAt sheet at)
 byMark sep Gap t sheet at = gapAt (t .sizes) sheet at
 byMark sep Strike t sheet at = strikeAt (t .sizes) sheet at

@@ -11,11 +11,11 @@ use borrow.Author.Tests.{not-true, ltb-true, leb-true, eq-eqb, ne-eqb}
 use Rattle.refusal.specs.Said.{Said, says}
 use Rattle.theory.specs.Limits.{fieldsMost, readingsMost}
 use Rattle.calendar.specs.Ascending.{ascending}
-use Rattle.calendar.specs.DateText.{shapedDate, means}
+use Rattle.calendar.specs.DateText.{dateLength, shortLength, shapedDate, means}
 use Rattle.calendar.specs.DateAnswers.{daysSay, dateSays}
 use Rattle.table.specs.Layout.{tabulate}
 use Rattle.scan.specs.declared.mark.Mark.{Mark}
-use Rattle.scan.specs.declared.mark.Mark.the-variants.{Date, Days, Gap, Strike, End, Unknown}
+use Rattle.scan.specs.declared.mark.Mark.the-variants.{Date, Short, Days, Gap, Strike, End, Unknown}
 use Rattle.scan.specs.Sheet.{byteAt, numberAt, raised, Record, field, gap, strike, Told, told, Step, more, done, stop, check, adds, early, dateAt, daysAt, gapRight, gapAt, strikeRight, strikeAt, endAt, markOf, byMark, stepAt, Scanned, whole, faulty, onward, scanFrom, scan, beyond, beforeFrom, before, stepOf}
 
 -- checks
@@ -31,20 +31,20 @@ check-done false k at s e = absurd (let z : _≡_ {A = ℕ} 0 1 = cc in omega ar
 
 -- what a record that stands is, and what lets it stand
 
-pub record DateStands (sep : ℕ → Bool) (s : List ℕ) (at : ℕ) (r : Record) (n : ℕ) : Type 0 where
-  pub fits : at + 12 ≤ length s
-  pub shown : dateSays sep (take 10 (drop (at + 2) s)) .state ≡ 0
-  pub is : r ≡ field (means sep (take 10 (drop (at + 2) s)))
-  pub next : n ≡ at + 12
+pub record DateStands (sep : ℕ → Bool) (size : ℕ) (s : List ℕ) (at : ℕ) (r : Record) (n : ℕ) : Type 0 where
+  pub fits : at + 2 + size ≤ length s
+  pub shown : dateSays sep (take size (drop (at + 2) s)) .state ≡ 0
+  pub is : r ≡ field (means sep (take size (drop (at + 2) s)))
+  pub next : n ≡ at + 2 + size
 
-pub date-stands : (sep : ℕ → Bool) (s : List ℕ) (at : ℕ) (r : Record) (n : ℕ) → dateAt sep s at ≡ more r n → DateStands sep s at r n
+pub date-stands : (sep : ℕ → Bool) (size : ℕ) (s : List ℕ) (at : ℕ) (r : Record) (n : ℕ) → dateAt sep size s at ≡ more r n → DateStands sep size s at r n
 unfolding dateAt
-date-stands sep s at r n e =
-    let c = check-more (leb (at + 12) (length s)) 15 at _ r n e in
-    let d = go (dateSays sep (take 10 (drop (at + 2) s)) .state) c.1 in
-    record { fits = leb-true (at + 12) (length s) c.0; shown = d .0; is = d .1; next = d .2 }
+date-stands sep size s at r n e =
+    let c = check-more (leb (at + 2 + size) (length s)) 15 at _ r n e in
+    let d = go (dateSays sep (take size (drop (at + 2) s)) .state) c.1 in
+    record { fits = leb-true (at + 2 + size) (length s) c.0; shown = d .0; is = d .1; next = d .2 }
   where
-    go : (k : ℕ) → cond (eqb k 0) (more (field (means sep (take 10 (drop (at + 2) s)))) (at + 12)) (stop (says k (at ∷ []))) ≡ more r n → (k ≡ 0) × (r ≡ field (means sep (take 10 (drop (at + 2) s)))) × (n ≡ at + 12)
+    go : (k : ℕ) → cond (eqb k 0) (more (field (means sep (take size (drop (at + 2) s)))) (at + 2 + size)) (stop (says k (at ∷ []))) ≡ more r n → (k ≡ 0) × (r ≡ field (means sep (take size (drop (at + 2) s)))) × (n ≡ at + 2 + size)
     go zero f = (refl, cc, cc)
     go (suc k) f = let g = rw (eqb·suc-zero k) at f in absurd (let z : _≡_ {A = ℕ} 0 1 = cc in omega arith)
 
@@ -121,11 +121,11 @@ end-no-more z s at r n = go (ltb 0 (length z))
 
 -- no record is the end
 
-pub date-no-end : (sep : ℕ → Bool) (s : List ℕ) (at : ℕ) → dateAt sep s at ≡ done → ⊥
+pub date-no-end : (sep : ℕ → Bool) (size : ℕ) (s : List ℕ) (at : ℕ) → dateAt sep size s at ≡ done → ⊥
 unfolding dateAt
-date-no-end sep s at e = go (dateSays sep (take 10 (drop (at + 2) s)) .state) (check-done (leb (at + 12) (length s)) 15 at _ e .1)
+date-no-end sep size s at e = go (dateSays sep (take size (drop (at + 2) s)) .state) (check-done (leb (at + 2 + size) (length s)) 15 at _ e .1)
   where
-    go : (k : ℕ) → cond (eqb k 0) (more (field (means sep (take 10 (drop (at + 2) s)))) (at + 12)) (stop (says k (at ∷ []))) ≡ done → ⊥
+    go : (k : ℕ) → cond (eqb k 0) (more (field (means sep (take size (drop (at + 2) s)))) (at + 2 + size)) (stop (says k (at ∷ []))) ≡ done → ⊥
     go zero f = let z : _≡_ {A = ℕ} 0 1 = cc in omega arith
     go (suc k) f = let g = rw (eqb·suc-zero k) at f in let z : _≡_ {A = ℕ} 0 1 = cc in omega arith
 
@@ -191,7 +191,7 @@ step-more sep t s at r n e =
     let c = check-more (leb (at + 2) (length s)) 15 at (byMark sep (markOf (numberAt s at)) t s at) r n e in
     (leb-true (at + 2) (length s) c.0, c .1)
 
--- DT and FD stand in time, and with room for a field
+-- DT, DS and FD stand in time, and with room for a field
 pub adds-more : (t : Told) (at : ℕ) (s : Step) (r : Record) (n : ℕ) → adds t at s ≡ more r n → (t .late ≡ false) × (length (t .sizes) < fieldsMost) × (s ≡ more r n)
 adds-more t at s r n e =
     let c = check-more (not (t .late)) 17 at _ r n e in
@@ -203,7 +203,8 @@ pub step-forward : (sep : ℕ → Bool) (t : Told) (s : List ℕ) (at : ℕ) (r 
 step-forward sep t s at r n e = go (markOf (numberAt s at)) (step-more sep t s at r n e .1)
   where
     go : (m : Mark) → byMark sep m t s at ≡ more r n → (at + 2 ≤ n) × (n ≤ length s)
-    go Date f = omega (arith, date-stands sep s at r n (adds-more t at _ r n f .2))
+    go Date f = omega (arith, date-stands sep dateLength s at r n (adds-more t at _ r n f .2))
+    go Short f = omega (arith, date-stands sep shortLength s at r n (adds-more t at _ r n f .2))
     go Days f = omega (arith, days-stand s at r n (adds-more t at _ r n f .2))
     go Gap f = omega (arith, gap-stands (t .sizes) s at r n f)
     go Strike f = omega (arith, strike-stands (t .sizes) s at r n f)
@@ -259,12 +260,12 @@ module _ (sep : ℕ → Bool) (t : Told) (s : List ℕ) (at : ℕ) where
   faults-text (suc k) r n (inl h) = absurd (omega arith)
   faults-text (suc k) r n (inr h) = rw (eqb·suc-zero k) (faults-stop at (says (suc k) (at ∷ [])) (fault-here (suc k) at (h .0) (h .1)))
 
-  faults-date : Faults at (dateAt sep s at)
+  faults-date : (size : ℕ) → Faults at (dateAt sep size s at)
   unfolding dateAt
-  faults-date =
-      let text = take 10 (drop (at + 2) s) in
-      faults-check (leb (at + 12) (length s)) 15 at _ (omega arith) (omega arith)
-      (faults-text (dateSays sep text .state) (field (means sep text)) (at + 12) (date-number sep text))
+  faults-date size =
+      let text = take size (drop (at + 2) s) in
+      faults-check (leb (at + 2 + size) (length s)) 15 at _ (omega arith) (omega arith)
+      (faults-text (dateSays sep text .state) (field (means sep text)) (at + 2 + size) (date-number sep text))
 
   faults-days : Faults at (daysAt s at)
   unfolding daysAt
@@ -308,7 +309,8 @@ module _ (sep : ℕ → Bool) (t : Told) (s : List ℕ) (at : ℕ) where
       go false = faults-stop at (says 1 []) (record { number = inl refl; most = omega arith; place = inl refl })
 
   faults-mark : (m : Mark) → Faults at (byMark sep m t s at)
-  faults-mark Date = faults-adds (dateAt sep s at) faults-date
+  faults-mark Date = faults-adds (dateAt sep dateLength s at) (faults-date dateLength)
+  faults-mark Short = faults-adds (dateAt sep shortLength s at) (faults-date shortLength)
   faults-mark Days = faults-adds (daysAt s at) faults-days
   faults-mark Gap = faults-gap
   faults-mark Strike = faults-strike

@@ -13,13 +13,13 @@ use Rattle.theory.specs.Limits.{fieldsMost, readingsMost}
 use Rattle.theory.specs.BoundLaws.{all-i, lt-or-ge}
 use Rattle.calendar.specs.Calendar.{lastDay}
 use Rattle.calendar.specs.Ascending.{ascending}
-use Rattle.calendar.specs.DateText.{shapedDate, means}
+use Rattle.calendar.specs.DateText.{dateLength, shortLength, shapedDate, means}
 use Rattle.calendar.specs.DateTextLaws.{means-ascending, means-most}
 use Rattle.calendar.specs.DateAnswers.{daysSay, dateSays}
 use Rattle.calendar.specs.DateAnswersLaws.{means-within}
 use Rattle.table.specs.LayoutLaws.{length-tabulate}
 use Rattle.scan.specs.declared.mark.Mark.{Mark}
-use Rattle.scan.specs.declared.mark.Mark.the-variants.{Date, Days, Gap, Strike, End, Unknown}
+use Rattle.scan.specs.declared.mark.Mark.the-variants.{Date, Short, Days, Gap, Strike, End, Unknown}
 use Rattle.scan.specs.Sheet.{numberAt, Record, field, gap, strike, fieldsOf, anyPair, Told, told, more, done, adds, early, dateAt, daysAt, markOf, byMark, stepAt, whole, scan}
 use Rattle.scan.specs.RecordLaws.{isPair, fields-field, fields-pair, late-pair, told-sizes}
 use Rattle.scan.specs.SheetLaws.{date-no-end, days-no-end, gap-no-end, strike-no-end, adds-done, end-some, step-done, date-stands, days-stand, gap-stands, strike-stands, end-no-more, step-more, adds-more, step-forward, scanOn, scan-on, Going, goes, over, going}
@@ -70,11 +70,15 @@ field-of e = cc e
 pub step-good : (sep : ℕ → Bool) (t : Told) (s : List ℕ) (at : ℕ) (d : List ℕ) (n : ℕ) → stepAt sep t s at ≡ more (field d) n → GoodField d × (length (t .sizes) < fieldsMost) × (t .late ≡ false)
 step-good sep t s at d n e = go (markOf (numberAt s at)) (step-more sep t s at (field d) n e .1)
   where
+    dated : (size : ℕ) → adds t at (dateAt sep size s at) ≡ more (field d) n → GoodField d × (length (t .sizes) < fieldsMost) × (t .late ≡ false)
+    dated size f =
+        let a = adds-more t at (dateAt sep size s at) (field d) n f in
+        let p = date-stands sep size s at (field d) n (a .2) in
+        (rw (field-of (p .is)) (means-good sep (take size (drop (at + 2) s)) (p .shown)), a .1, a .0)
+
     go : (m : Mark) → byMark sep m t s at ≡ more (field d) n → GoodField d × (length (t .sizes) < fieldsMost) × (t .late ≡ false)
-    go Date f =
-        let a = adds-more t at (dateAt sep s at) (field d) n f in
-        let p = date-stands sep s at (field d) n (a .2) in
-        (rw (field-of (p .is)) (means-good sep (take 10 (drop (at + 2) s)) (p .shown)), a .1, a .0)
+    go Date f = dated dateLength f
+    go Short f = dated shortLength f
     go Days f =
         let a = adds-more t at (daysAt s at) (field d) n f in
         let p = days-stand s at (field d) n (a .2) in (
@@ -139,7 +143,8 @@ module _ (sep : ℕ → Bool) (s : List ℕ) where
   done-some t at e = go (markOf (numberAt s at)) (step-done sep t s at e .1)
     where
       go : (m : Mark) → byMark sep m t s at ≡ done → 1 ≤ length (t .sizes)
-      go Date f = absurd (date-no-end sep s at (adds-done t at (dateAt sep s at) f))
+      go Date f = absurd (date-no-end sep dateLength s at (adds-done t at (dateAt sep dateLength s at) f))
+      go Short f = absurd (date-no-end sep shortLength s at (adds-done t at (dateAt sep shortLength s at) f))
       go Days f = absurd (days-no-end s at (adds-done t at (daysAt s at) f))
       go Gap f = absurd (gap-no-end (t .sizes) s at f)
       go Strike f = absurd (strike-no-end (t .sizes) s at f)

@@ -1,4 +1,4 @@
-// Records that add a field: DT and FD.
+// Records that add a field: DT, DS and FD.
 ghost use mathlib.Core.Path.{_≡_};
 ghost use mathlib.Core.Bool.{_&&_};
 ghost use mathlib.Core.Logic.{_⊎_};
@@ -7,8 +7,8 @@ ghost use Prim.Native.Nat.{_+_, _-_, _*_, _≤_};
 ghost use lib.ListN.{length, replicate};
 ghost use Rattle.theory.specs.Limits.{readingsMost};
 ghost use Rattle.calendar.specs.Ascending.{ascending};
-ghost use Rattle.calendar.specs.DateText.{separator};
-ghost use Rattle.calendar.specs.DateAnswers.{padded, datesMost};
+ghost use Rattle.calendar.specs.DateText.{datesMost, dateLength, separator};
+ghost use Rattle.calendar.specs.DateAnswers.{padded};
 ghost use Rattle.table.specs.Layout.{tabulate};
 ghost use Rattle.refusal.specs.Refusals.{number};
 ghost use Rattle.refusal.specs.Said.{says, refused};
@@ -17,8 +17,10 @@ ghost use Rattle.scan.specs.Judging.{fieldBy, ReadsField};
 use crate::mark::Mark;
 use crate::number;
 use crate::step::Verdict;
+use calendar::DATE_LENGTH;
 use calendar::DATES;
 use calendar::DateAnswer;
+use calendar::SHORT_LENGTH;
 use refusal::Refusal;
 use table::READINGS_MOST;
 
@@ -66,16 +68,16 @@ fn widened(days: [u16; DATES]) -> [u16; READINGS_MOST]
     wide
 }
 
-// DT: a date text.
-fn date_at(sheet: &[u8], at: usize) -> FieldRead
-    requires { ⌜ at ≤ length (now sheet) ⌝ }
-    ensures { λ r. ⌜ ReadsField (dateAt separator (now (sheet .entry)) at) r ⌝ }
+// DT and DS: a date text of so many bytes.
+fn date_at(sheet: &[u8], at: usize, size: usize) -> FieldRead
+    requires { ⌜ (at ≤ length (now sheet)) × (size ≤ dateLength) ⌝ }
+    ensures { λ r. ⌜ ReadsField (dateAt separator size (now (sheet .entry)) at) r ⌝ }
 {
-    if sheet.len() < at + 12 {
+    let from = at + 2;
+    let next = from + size;
+    if sheet.len() < next {
         return refused(Refusal::Cut(at));
     }
-    let from = at + 2;
-    let next = at + 12;
     let read = calendar::read_date(&sheet[from..next]);
     let answer = read.answer;
     let days = read.days;
@@ -175,13 +177,14 @@ fn days_at(sheet: &[u8], at: usize) -> FieldRead
     }
 }
 
-// The field that the record adds, whose mark is DT or FD.
+// The field that the record adds, whose mark is DT, DS or FD.
 pub fn field_at(sheet: &[u8], at: usize, mark: Mark) -> FieldRead
     requires { ⌜ at ≤ length (now sheet) ⌝ }
     ensures { λ r. ⌜ ReadsField (fieldBy separator mark (now (sheet .entry)) at) r ⌝ }
 {
-    if let Mark::Date = mark {
-        return date_at(sheet, at);
+    match mark {
+        Mark::Date => date_at(sheet, at, DATE_LENGTH),
+        Mark::Short => date_at(sheet, at, SHORT_LENGTH),
+        _ => days_at(sheet, at),
     }
-    days_at(sheet, at)
 }

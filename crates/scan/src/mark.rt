@@ -5,9 +5,10 @@ ghost use lib.ListN.{length};
 ghost use Rattle.scan.specs.Sheet.{numberAt, markOf};
 use crate::number;
 
-// What a mark announces: DT, FD, GP, PR, EN.
+// What a mark announces: DT, DS, FD, GP, PR, EN.
 pub enum Mark {
     Date,
+    Short,
     Days,
     Gap,
     Strike,
@@ -21,6 +22,7 @@ pub fn mark_at(sheet: &[u8], at: usize) -> Mark
 {
     match number::number_at(sheet, at) {
         0x4454 => Mark::Date,
+        0x4453 => Mark::Short,
         0x4644 => Mark::Days,
         0x4750 => Mark::Gap,
         0x5052 => Mark::Strike,

@@ -13,7 +13,7 @@ use refusal::Refusal;
 use table::FIELDS_MOST;
 
 pub enum Verdict {
-    // DT, FD: a field of that many readings; the next record's offset
+    // DT, DS, FD: a field of that many readings; the next record's offset
     Field(u8, usize),
     // GP, PR: the next record's offset
     Rule(usize),
@@ -86,6 +86,7 @@ pub fn judge_at(sheet: &[u8], at: usize, sizes: &[u8], late: bool) -> Verdict
     let mark = mark::mark_at(sheet, at);
     match mark {
         Mark::Date => judge_field(sheet, at, mark, sizes, late),
+        Mark::Short => judge_field(sheet, at, mark, sizes, late),
         Mark::Days => judge_field(sheet, at, mark, sizes, late),
         Mark::Gap => judge_gap(sheet, at, sizes),
         Mark::Strike => judge_strike(sheet, at, sizes),

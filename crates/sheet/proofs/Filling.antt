@@ -10,15 +10,15 @@ use borrow.Rule.Slice.PartMut.{midOf, putMid, same-len-mid, mid-len}
 use types.Run.{OneOf, miss}
 use denote.Enum.Declared.{tagOf}
 use Rattle.theory.specs.Limits.{readingsMost}
-use Rattle.calendar.specs.DateText.{separator}
+use Rattle.calendar.specs.DateText.{dateLength, shortLength, separator}
 use Rattle.calendar.specs.DateAnswers.{padded}
 use Rattle.scan.specs.Sheet.{Record, field, fieldsOf, anyPair, Told, told, Step, more, numberAt, dateAt, daysAt as listAt, markOf, byMark, stepAt, whole, scan}
 use Rattle.scan.specs.RecordLaws.{fields-field, late-field}
-use Rattle.scan.specs.SheetLaws.{adds-more, gap-stands, strike-stands, end-no-more, step-more, scanOn, scan-on, over}
+use Rattle.scan.specs.SheetLaws.{adds-more, gap-stands, strike-stands, end-no-more, step-more, scanOn, scan-on}
 use Rattle.scan.specs.WholeLaws.{GoodFields, whole-good, FieldNext, fieldNext, field-next}
 use Rattle.scan.specs.Judging.{adds, gist, gistOf, fieldBy, ReadsField}
 use Rattle.scan.specs.declared.mark.Mark.{Mark}
-use Rattle.scan.specs.declared.mark.Mark.the-variants.{Date, Days, Gap, Strike, End, Unknown}
+use Rattle.scan.specs.declared.mark.Mark.the-variants.{Date, Short, Days, Gap, Strike, End, Unknown}
 use Rattle.scan.specs.declared.field.FieldRead.{FieldRead}
 use Rattle.scan.specs.declared.step.Verdict.{Verdict}
 use Rattle.scan.specs.declared.step.Verdict.the-variants.{Field, Rule, Stop}
@@ -72,7 +72,8 @@ next-of : {sheet : List ℕ} {before : List Record} {at : ℕ} → FieldNext sep
 next-of (fieldNext d n e v) = record { days = d; next = n; step = e; on = v }
 
 by-mark : (t : Told) (s : List ℕ) (at : ℕ) (d : List ℕ) (n : ℕ) (m : Mark) → byMark separator m t s at ≡ more (field d) n → fieldBy separator m s at ≡ more (field d) n
-by-mark t s at d n Date e = adds-more t at (dateAt separator s at) (field d) n e .2
+by-mark t s at d n Date e = adds-more t at (dateAt separator dateLength s at) (field d) n e .2
+by-mark t s at d n Short e = adds-more t at (dateAt separator shortLength s at) (field d) n e .2
 by-mark t s at d n Days e = adds-more t at (listAt s at) (field d) n e .2
 by-mark t s at d n Gap e = absurd (let p = gap-stands (t .sizes) s at (field d) n e .is in let z : _≡_ {A = ℕ} 0 1 = cc p in omega arith)
 by-mark t s at d n Strike e = absurd (let p = strike-stands (t .sizes) s at (field d) n e .is in let z : _≡_ {A = ℕ} 0 1 = cc p in omega arith)

@@ -13,7 +13,7 @@ use Rattle.theory.specs.BoundLaws.{and-l, and-r}
 use Rattle.theory.specs.Relation.{Agree}
 use Rattle.theory.specs.Strike.{strike as without}
 use Rattle.theory.specs.StrikeLaws.{strike-in}
-use Rattle.calendar.specs.DateText.{separator}
+use Rattle.calendar.specs.DateText.{dateLength, shortLength, separator}
 use Rattle.table.specs.Layout.{Sized, rel, words, sizeOf}
 use Rattle.table.specs.LayoutLaws.{Fit, Narrow, rel-words, length-words, words-same, words-rel}
 use Rattle.table.specs.Strike.{pairAndMirror, Struck}
@@ -25,7 +25,7 @@ use Rattle.scan.specs.SheetLaws.{gap-no-end, strike-no-end, adds-more, date-sta
 use Rattle.scan.specs.WholeLaws.{whole-some, count-grows, fields-fixed}
 use Rattle.scan.specs.Judging.{ReadsInterval, ReadsPair}
 use Rattle.scan.specs.declared.mark.Mark.{Mark}
-use Rattle.scan.specs.declared.mark.Mark.the-variants.{Date, Days, Gap, Strike, End, Unknown}
+use Rattle.scan.specs.declared.mark.Mark.the-variants.{Date, Short, Days, Gap, Strike, End, Unknown}
 use Rattle.scan.specs.declared.record.Interval.{Interval}
 use Rattle.scan.specs.declared.record.Pair.{Pair}
 use Rattle.scan.proofs.mark.Mark.{the-type}
@@ -280,17 +280,18 @@ module _ {sheet sizes days t : List ℕ} {at : ℕ} (r : RulesTo sheet sizes day
       let e = ap length (fields-field (r .before) d) ∙ length-append (fieldsOf (r .before)) (d ∷ []) in
       omega (arith, count-grows separator sheet (r .before ++ field d ∷ []) m (records sheet) v, e, ap length (r .same))
 
-  pub rules-done : {m : Mark} → m ≡ markOf (numberAt sheet at) → OneOf (0 ∷ 1 ∷ 4 ∷ 5 ∷ []) (tagOf the-type m) → r .before ≡ records sheet
+  pub rules-done : {m : Mark} → m ≡ markOf (numberAt sheet at) → OneOf (0 ∷ 1 ∷ 2 ∷ 5 ∷ 6 ∷ []) (tagOf the-type m) → r .before ≡ records sheet
   rules-done {m} em o = go onward
     where
       as-field : (q : Record) (k : ℕ) {d : List ℕ} → q ≡ field d → scanOn separator sheet (r .before ++ q ∷ []) k ≡ whole (records sheet) → ⊥
       as-field q k {d} e v = no-field d k (ap (λ (x : Record). scanOn separator sheet (r .before ++ x ∷ []) k) (sym e) ∙ v)
 
-      no-more : (x : Mark) → OneOf (0 ∷ 1 ∷ 4 ∷ 5 ∷ []) (tagOf the-type x) → (q : Record) (k : ℕ) → byMark separator x (told (r .before)) sheet at ≡ more q k → scanOn separator sheet (r .before ++ q ∷ []) k ≡ whole (records sheet) → ⊥
-      no-more Date y q k e v = as-field q k (date-stands separator sheet at q k (adds-more (told (r .before)) at (dateAt separator sheet at) q k e .2) .is) v
+      no-more : (x : Mark) → OneOf (0 ∷ 1 ∷ 2 ∷ 5 ∷ 6 ∷ []) (tagOf the-type x) → (q : Record) (k : ℕ) → byMark separator x (told (r .before)) sheet at ≡ more q k → scanOn separator sheet (r .before ++ q ∷ []) k ≡ whole (records sheet) → ⊥
+      no-more Date y q k e v = as-field q k (date-stands separator dateLength sheet at q k (adds-more (told (r .before)) at (dateAt separator dateLength sheet at) q k e .2) .is) v
+      no-more Short y q k e v = as-field q k (date-stands separator shortLength sheet at q k (adds-more (told (r .before)) at (dateAt separator shortLength sheet at) q k e .2) .is) v
       no-more Days y q k e v = as-field q k (days-stand sheet at q k (adds-more (told (r .before)) at (listAt sheet at) q k e .2) .is) v
-      no-more Gap y q k e v = miss (0 ∷ 1 ∷ 4 ∷ 5 ∷ []) 2 tt y
-      no-more Strike y q k e v = miss (0 ∷ 1 ∷ 4 ∷ 5 ∷ []) 3 tt y
+      no-more Gap y q k e v = miss (0 ∷ 1 ∷ 2 ∷ 5 ∷ 6 ∷ []) 3 tt y
+      no-more Strike y q k e v = miss (0 ∷ 1 ∷ 2 ∷ 5 ∷ 6 ∷ []) 4 tt y
       no-more End y q k e v = end-no-more (told (r .before) .sizes) sheet at q k e
       no-more Unknown y q k e v = let z : _≡_ {A = ℕ} 0 1 = cc e in omega arith
 

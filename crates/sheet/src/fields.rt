@@ -1,4 +1,4 @@
-// The write pass over DT and FD: the fields' sizes and days.
+// The write pass over DT, DS and FD: the fields' sizes and days.
 ghost use mathlib.Core.Path.{_≡_};
 ghost use Prim.Native.Nat.{_+_, _*_, _<_};
 ghost use lib.ListN.{length};

@@ -35,7 +35,7 @@ judge-at-requires c κs = search needs
 abbrev judged : (c : tie.At-loop Inv-loop μ-loop) → Gist
 judged c = gist (stepAt separator (record { sizes = take (c .loop .n) (c .loop .sizes); late = c .loop .late }) (c .before .before .args .sheet .now) (c .loop .at))
 
--- DT and FD
+-- DT, DS and FD
 added : (c : tie.After-known-told Inv-loop μ-loop) → adds (c .before .size .given .0 .0) (c .before .size .given .0 .1 .0) ≡ judged (c .before .before .before .before .before)
 added c = sym (ap gistOf (c .before .size .given .1)) ∙ c .before .before .before .judge-at .ensures
 

@@ -6,7 +6,7 @@ use Prim.Native.Nat.{ℕ, _-_, _≤_, _<_}
 use native.Mathlib.Numerals.{add-one}
 use native.Mathlib.Omega.{arith}
 use lib.ListN.{length, take}
-use Rattle.calendar.specs.DateAnswers.{datesMost}
+use Rattle.calendar.specs.DateText.{datesMost}
 use Rattle.calendar.specs.DaysFound.{held}
 use Rattle.calendar.proofs.Carry.{Carried, carry-start, carry-under, carry-over, carry-same, carry-end}
 use Rattle.calendar.proofs.found.with_day.Statement.{statement}

@@ -25,6 +25,12 @@ array-read-pack-2 c = search needs
 cast-pack-2 : tie.Need-cast-pack-2
 cast-pack-2 c = search needs
 
+array-read-pack-3 : tie.Need-array-read-pack-3
+array-read-pack-3 c = search needs
+
+cast-pack-3 : tie.Need-cast-pack-3
+cast-pack-3 c = search needs
+
 pack-requires : tie.Need-pack-requires
 pack-requires c κs = search needs
 
@@ -35,10 +41,10 @@ refused-requires : tie.Need-refused-requires
 refused-requires c κs = search needs
 
 returns : tie.Need-returns
-returns c = packed-as (asDays (getD (c .before .before .before .before .before .args .read .days) 0 0 ∷ getD (c .before .before .before .before .before .args .read .days) 1 0 ∷ [])) saidDate (c .before .before .answer .given .1) (c .pack .ensures)
+returns c = packed-as (asDays (getD (c .before .before .before .before .before .args .read .days) 0 0 ∷ getD (c .before .before .before .before .before .args .read .days) 1 0 ∷ getD (c .before .before .before .before .before .args .read .days) 2 0 ∷ [])) saidDate (c .before .before .answer .given .1) (c .pack .ensures)
 
 returns-2 : tie.Need-returns-2
-returns-2 c = packed-refused (asDays (getD (c .before .before .before .before .before .args .read .days) 0 0 ∷ getD (c .before .before .before .before .before .args .read .days) 1 0 ∷ [])) saidDate DateAnswer.Refused (λ r. refl) _ (c .before .before .answer2 .given .1) (c .refused .ensures)
+returns-2 c = packed-refused (asDays (getD (c .before .before .before .before .before .args .read .days) 0 0 ∷ getD (c .before .before .before .before .before .args .read .days) 1 0 ∷ getD (c .before .before .before .before .before .args .read .days) 2 0 ∷ [])) saidDate DateAnswer.Refused (λ r. refl) _ (c .before .before .answer2 .given .1) (c .refused .ensures)
 
 pub date-spec : {M : Type 1} → statement M
 date-spec =
@@ -49,6 +55,8 @@ date-spec =
     cast-pack
     array-read-pack-2
     cast-pack-2
+    array-read-pack-3
+    cast-pack-3
     pack-requires
     enum-known-answer-2
     refused-requires

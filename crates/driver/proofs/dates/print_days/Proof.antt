@@ -1,14 +1,15 @@
 -- `driver::dates::print_days` is safe and ends.
 use borrow.Author.Needs.{needs}
 use Prim.Native.Nat.{_≤_, _-_}
+use Rattle.calendar.specs.DateText.{datesMost}
 use Rattle.driver.proofs.dates.print_days.Statement.{statement}
 use Rattle.driver.proofs.dates.print_days.Tie as tie
 
 abbrev Inv-loop : tie.InvT-loop
-Inv-loop count days i₀ i = i ≤ 2
+Inv-loop count days i₀ i = i ≤ datesMost
 
 abbrev μ-loop : tie.MeasureT-loop
-μ-loop count days i₀ i = 2 - i
+μ-loop count days i₀ i = datesMost - i
 
 number-requires : tie.Need-number-requires Inv-loop μ-loop
 number-requires c κs = search needs

@@ -1,6 +1,6 @@
 use Prim.Native.Nat.{_-_}
 use native.Mathlib.Omega.{arith}
-use Rattle.calendar.specs.DateAnswers.{datesMost}
+use Rattle.calendar.specs.DateText.{datesMost}
 use Rattle.scan.proofs.Days.{Widening, widening-none, widening-more, widening-all}
 use borrow.Author.Needs.{needs}
 use Rattle.scan.proofs.field.widened.Statement.{statement}
