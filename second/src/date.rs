@@ -2,11 +2,18 @@
 
 use crate::refusal::Refusal;
 
-/// The days a date text may mean: one or two, ascending, the unused one 0.
+/// Most days one text may mean.
+pub const DATES: usize = 3;
+
+/// Bytes of a text with a year of two digits, and of one with four.
+pub const SHORT: usize = 8;
+pub const LONG: usize = 10;
+
+/// The days a date text may mean: one to three, ascending, the unused ones 0.
 #[derive(Clone, Copy, PartialEq, Eq, Debug)]
 pub struct Days {
     pub count: usize,
-    pub day: [u16; 2],
+    pub day: [u16; DATES],
 }
 
 impl Days {
@@ -17,24 +24,33 @@ impl Days {
 
 /// Reads a text by itself: 19 for its shape or year, 20 when no reading is real.
 pub fn read(text: &[u8]) -> Result<Days, Refusal> {
-    let (first, second, year) = parts(text).ok_or(Refusal::bare(19))?;
-    let day_first = day_number(year, second, first);
-    let month_first = day_number(year, first, second);
-    ascending(day_first, month_first).ok_or(Refusal::bare(20))
+    let meanings = meanings(text).ok_or(Refusal::bare(19))?;
+    let real = meanings.into_iter().filter_map(|(year, month, day)| day_number(year, month, day));
+    ascending(real.collect()).ok_or(Refusal::bare(20))
 }
 
-/// The two leading numbers and the year of a text of the right shape.
-fn parts(text: &[u8]) -> Option<(u32, u32, u32)> {
-    let text: &[u8; 10] = text.try_into().ok()?;
+/// The years, months and days that a text of the right shape names, real or not.
+fn meanings(text: &[u8]) -> Option<Vec<(u32, u32, u32)>> {
+    match text.len() {
+        SHORT => {
+            let [x, y, z] = parts(text)?;
+            Some(vec![(2000 + z, y, x), (2000 + z, x, y), (2000 + x, y, z)])
+        }
+        LONG => {
+            let [x, y, year] = parts(text)?;
+            (2000..=2099).contains(&year).then(|| vec![(year, y, x), (year, x, y)])
+        }
+        _ => None,
+    }
+}
+
+/// The three numbers of a text, the last one of all the digits that are left.
+fn parts(text: &[u8]) -> Option<[u32; 3]> {
     let separator = text[2];
     if !b"/.-".contains(&separator) || text[5] != separator {
         return None;
     }
-    let year = number(&text[6..])?;
-    if !(2000..=2099).contains(&year) {
-        return None;
-    }
-    Some((number(&text[..2])?, number(&text[3..5])?, year))
+    Some([number(&text[..2])?, number(&text[3..5])?, number(&text[6..])?])
 }
 
 fn number(digits: &[u8]) -> Option<u32> {
@@ -44,13 +60,13 @@ fn number(digits: &[u8]) -> Option<u32> {
     })
 }
 
-fn ascending(one: Option<u16>, other: Option<u16>) -> Option<Days> {
-    match (one, other) {
-        (None, None) => None,
-        (Some(day), None) | (None, Some(day)) => Some(Days { count: 1, day: [day, 0] }),
-        (Some(x), Some(y)) if x == y => Some(Days { count: 1, day: [x, 0] }),
-        (Some(x), Some(y)) => Some(Days { count: 2, day: [x.min(y), x.max(y)] }),
-    }
+/// The days in order, equal ones once; nothing where there is none.
+fn ascending(mut days: Vec<u16>) -> Option<Days> {
+    days.sort();
+    days.dedup();
+    let mut day = [0; DATES];
+    day[..days.len()].copy_from_slice(&days);
+    (!days.is_empty()).then_some(Days { count: days.len(), day })
 }
 
 fn is_leap(year: u32) -> bool {

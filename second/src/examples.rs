@@ -1,12 +1,13 @@
 //! The paper's worked examples, and what the source documents say of theirs,
-//! held against the reference. Every number here is the paper's or a
-//! document's own.
+//! held against the reference. Every number here is the paper's, a document's
+//! own, or worked out by hand.
 
 use crate::choose::choose;
 use crate::date;
-use crate::known::{crossword, figures, hard, paper};
+use crate::known::{crossword, figures, hard, paper, short_dates};
 use crate::limits::FREE;
 use crate::listing::list;
+use crate::packed::{pack, unpack, Odd};
 use crate::readings;
 use crate::refusal::Refusal;
 use crate::rows::{judge, kept, Rows};
@@ -111,17 +112,45 @@ fn c6_opens_whole_and_settles_broken() {
     assert_eq!(judge(&table.sizes, &table.words), Ok(Rows::Broken(0, 1, 0)));
 }
 
+fn assert_date(text: &[u8], want: Result<&[u16], u8>) {
+    match (date::read(text), want) {
+        (Ok(days), Ok(want)) => assert_eq!(days.as_slice(), want, "{text:?}"),
+        (got, want) => assert_eq!(got.err(), want.err().map(Refusal::bare), "{text:?}"),
+    }
+}
+
 #[test]
 fn date_texts() {
-    for (text, want) in paper::DATES {
-        let got = date::read(text.as_bytes());
-        match want {
-            Ok(days) => assert_eq!(got.unwrap().as_slice(), days, "{text}"),
-            Err(number) => assert_eq!(got, Err(Refusal::bare(number)), "{text}"),
-        }
+    for (text, want) in paper::DATES.into_iter().chain(short_dates::TEXTS) {
+        assert_date(text.as_bytes(), want);
     }
-    assert_eq!(date::read(b"01/01/200"), Err(Refusal::bare(19)));
-    assert_eq!(date::read(b""), Err(Refusal::bare(19)));
+}
+
+#[test]
+fn only_eight_bytes_and_ten_are_read() {
+    for length in 0..=20 {
+        let text: Vec<u8> = b"02/03/2004".iter().copied().cycle().take(length).collect();
+        let want: Result<&[u16], u8> = match length {
+            // 20 March 2002, 3 February 2020, 2 March 2020.
+            8 => Ok(&[809, 7338, 7366]),
+            // 3 February 2004, 2 March 2004.
+            10 => Ok(&[1494, 1522]),
+            _ => Err(19),
+        };
+        assert_date(&text, want);
+    }
+}
+
+#[test]
+fn three_days_in_one_number() {
+    // From the low end: state 0, count 3, days 793, 1494 and 1522.
+    let three = 0x05f2_05d6_0319_0300;
+    assert_eq!(pack(&date::read(b"02/03/04")), three);
+    assert_eq!(unpack(three), Ok(date::read(b"02/03/04")));
+    // A count of 4 or 0, and a day more than the count says.
+    for odd in [0x05f2_05d6_0319_0400, 0x05f2_05d6_0319_0000, 0x05f2_05d6_0319_0200] {
+        assert_eq!(unpack::<date::Days>(odd), Err(Odd(odd)));
+    }
 }
 
 #[test]
@@ -130,6 +159,26 @@ fn the_listers_example() {
     assert_eq!(list(b"DT02/05/2024DT30/02/2024EN"), "state 20 at 12\n");
     assert_eq!(list(b"EN"), "state 1\n");
     assert_eq!(list(&[b'x'; 4097]), "state 14\n");
+}
+
+/// A sheet under `samples/` and the text beside it.
+macro_rules! sample {
+    ($name:literal) => {
+        (
+            &include_bytes!(concat!("../../samples/", $name, ".sheet"))[..],
+            include_str!(concat!("../../samples/", $name, ".txt")),
+            $name,
+        )
+    };
+}
+
+#[test]
+fn the_samples() {
+    for (sheet, text, name) in
+        [sample!("c2"), sample!("c5"), sample!("c6"), sample!("short"), sample!("refused")]
+    {
+        assert_eq!(list(sheet), text, "{name}");
+    }
 }
 
 #[test]
@@ -176,6 +225,57 @@ fn faults_of_a_sheet_in_the_papers_order() {
     let sixteen = b"DT01/02/2003".repeat(16);
     assert_eq!(refused(&[&sixteen[..], b"DT"].concat()), Refusal::at(18, 192));
     assert_eq!(refused(&[&sixteen[..], b"PR\0\0\0\0FD"].concat()), Refusal::at(17, 198));
+}
+
+#[test]
+fn faults_of_a_short_date() {
+    let refused = |sheet: &[u8]| read_sheet(sheet).unwrap_err();
+    let good = b"DS02/03/04";
+    for length in 0..10 {
+        assert_eq!(refused(&good[..length]), Refusal::at(15, 0));
+        // Late or one too many: after the mark, before what else is wrong.
+        let late = [b"DS02/03/04PR\0\0\0\0", &good[..length]].concat();
+        assert_eq!(refused(&late), Refusal::at(if length < 2 { 15 } else { 17 }, 16));
+        let many = [&good.repeat(16)[..], &good[..length]].concat();
+        assert_eq!(refused(&many), Refusal::at(if length < 2 { 15 } else { 18 }, 160));
+    }
+    assert_eq!(refused(good), Refusal::at(15, 10));
+    assert_eq!(refused(b"DT02/03/2004DS31/02/30EN"), Refusal::at(20, 12));
+    assert_eq!(refused(b"DT02/03/2004DS02/03.04EN"), Refusal::at(19, 12));
+    // The text of the other mark.
+    assert_eq!(refused(b"DS02/03/2004EN"), Refusal::at(16, 10));
+    assert_eq!(refused(b"DT02/03/04EN"), Refusal::at(19, 0));
+    assert_eq!(refused(b"DT02/03/04E"), Refusal::at(15, 0));
+    // Reading 2 is there if three dates are, and not if two of them are equal.
+    assert!(read_sheet(b"DS02/03/04PR\0\0\x02\x02EN").is_ok());
+    assert_eq!(refused(b"DS05/05/04PR\0\0\x02\x02EN"), Refusal::at(22, 10));
+}
+
+#[test]
+fn a_short_date_is_a_field_of_up_to_three_readings() {
+    let (table, days) = read_sheet(b"DS02/03/04DS01/01/01DS05/05/04EN").unwrap();
+    assert_eq!(table, Owned::open(&[3, 1, 2]));
+    assert_eq!(days[..4], [793, 1494, 1522, 0]);
+    assert_eq!(days[32..36], [366, 0, 0, 0]);
+    assert_eq!(days[64..68], [1586, 1950, 0, 0]);
+    assert_eq!(days[68..96], [0; 28]);
+}
+
+#[test]
+fn an_interval_narrows_a_short_date() {
+    // Day 1461 is 1 January 2004: 33 and 61 days before the later two readings,
+    // 668 after the first.
+    for (lo, hi, kept) in [
+        (-700_i16, 100_i16, "3 793 1494 1522"),
+        (0, 100, "2 1494 1522"),
+        (34, 100, "1 1522"),
+        (-668, 0, "1 793"),
+    ] {
+        let mut sheet = b"FD\x01\x05\xb5DS02/03/04GP\x00\x01".to_vec();
+        sheet.extend([lo.to_be_bytes(), hi.to_be_bytes()].concat());
+        sheet.extend(b"EN");
+        assert!(list(&sheet).contains(&format!("\nfield 1 kept {kept}\n")), "{lo} to {hi}");
+    }
 }
 
 #[test]

@@ -4,7 +4,7 @@
 //! 15 count the place's values, each of 16 bits from bit 16. Every bit that has
 //! no meaning is 0; packing what was unpacked and comparing shows that.
 
-use crate::date::Days;
+use crate::date::{Days, DATES};
 use crate::refusal::{Place, Refusal};
 use crate::rows::Rows;
 use crate::settle::Settling;
@@ -89,12 +89,12 @@ impl Packed for Days {
     }
 
     fn unpack(word: u64) -> Option<Days> {
-        let day = [16, 32].map(|bit| half(word, bit) as u16);
-        match byte(word, 8) {
-            1 => Some(Days { count: 1, day: [day[0], 0] }),
-            2 => Some(Days { count: 2, day }),
-            _ => None,
-        }
+        let count = byte(word, 8);
+        let mut day = [16, 32, 48].map(|bit| half(word, bit) as u16);
+        (1..=DATES).contains(&count).then(|| {
+            day[count..].fill(0);
+            Days { count, day }
+        })
     }
 }
 

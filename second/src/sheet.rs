@@ -72,15 +72,18 @@ impl Content {
     /// Takes in one record that is not EN; answers its length, or a number.
     fn add(&mut self, mark: &[u8], record: &[u8]) -> Result<usize, u8> {
         match mark {
-            b"DT" | b"FD" => {
+            b"DT" | b"DS" | b"FD" => {
                 if !self.rules.is_empty() {
                     return Err(17);
                 }
                 if self.fields.len() == FIELDS {
                     return Err(18);
                 }
-                let (days, length) =
-                    if mark == b"DT" { date_field(record)? } else { day_field(record)? };
+                let (days, length) = match mark {
+                    b"DT" => date_field(record, date::LONG)?,
+                    b"DS" => date_field(record, date::SHORT)?,
+                    _ => day_field(record)?,
+                };
                 self.fields.push(days);
                 Ok(length)
             }
@@ -155,11 +158,13 @@ impl Content {
     }
 }
 
-/// The days of a DT record and the record's length.
-fn date_field(record: &[u8]) -> Result<(Vec<u16>, usize), u8> {
-    let text = record.get(2..12).ok_or(15)?;
+/// The days of a DT or DS record, whose text has so many bytes, and the
+/// record's length.
+fn date_field(record: &[u8], text: usize) -> Result<(Vec<u16>, usize), u8> {
+    let length = 2 + text;
+    let text = record.get(2..length).ok_or(15)?;
     let days = date::read(text).map_err(|refusal| refusal.number)?;
-    Ok((days.as_slice().to_vec(), 12))
+    Ok((days.as_slice().to_vec(), length))
 }
 
 /// The days of an FD record and the record's length. The count is judged before

@@ -41,6 +41,7 @@ fn main() {
     choosing();
     reading();
     small_questions();
+    date_texts();
 }
 
 const INTRODUCTION: &str = "\
@@ -220,7 +221,7 @@ fn reading() {
     let random = &mut Random::new(SEED);
     let mut cut = Draft::full(random, 16, true).bytes();
     cut.truncate(SHEET_BYTES - 3);
-    let dates = b"DT02/05/2024".repeat(16);
+    let (dates, short_dates) = (b"DT02/05/2024".repeat(16), b"DS02/03/04".repeat(16));
     let sheets = [
         ("16 FD of 32 days, then GP", Draft::full(random, 16, true).bytes()),
         ("16 FD of 32 days, then PR", Draft::full(random, 16, false).bytes()),
@@ -230,6 +231,7 @@ fn reading() {
             Draft::largest_fields(random, FULL.len()).bytes(),
         ),
         ("16 DT and no rule (194 bytes)", [&dates[..], b"EN"].concat()),
+        ("16 DS and no rule (162 bytes)", [&short_dates[..], b"EN"].concat()),
         ("16 FD, then GP, cut three bytes before its end", cut),
     ];
     for (name, sheet) in &sheets {
@@ -262,7 +264,7 @@ impl Lent {
     }
 }
 
-/// Questions that are cheap once the table has been checked, or need no check.
+/// Questions that are cheap once the table has been checked.
 fn small_questions() {
     let (open, none) = (Owned::open(&FULL), vec![0; LENT_WORDS]);
     let library = || ffi::kept(&open.sizes, &open.words, 15).expect("an answer");
@@ -279,12 +281,26 @@ fn small_questions() {
         assert!(library() == plain(), "{DIFFER}");
         line("show", name, vec![repeated(library), repeated(plain)]);
     }
+}
 
-    let texts = ["03/07/2024", "13-02-2099", "29.02.2023", "01/01/1999"].map(str::as_bytes);
-    let library = || texts.map(|text| ffi::date(black_box(text)).expect("an answer"));
-    let plain = || texts.map(|text| plain::date::read(black_box(text)));
-    assert!(library() == plain(), "{DIFFER}");
-    line("date", "four texts, two of them refused", vec![repeated(library), repeated(plain)]);
+/// A question that needs no table.
+fn date_texts() {
+    for (name, texts) in [
+        (
+            "four texts of ten bytes, two of them refused",
+            ["03/07/2024", "13-02-2099", "29.02.2023", "01/01/1999"],
+        ),
+        (
+            "four texts of eight bytes, two of them refused",
+            ["02/03/04", "29-02-28", "31.02.30", "02/03.04"],
+        ),
+    ] {
+        let texts = texts.map(str::as_bytes);
+        let library = || texts.map(|text| ffi::date(black_box(text)).expect("an answer"));
+        let plain = || texts.map(|text| plain::date::read(black_box(text)));
+        assert!(library() == plain(), "{DIFFER}");
+        line("date", name, vec![repeated(library), repeated(plain)]);
+    }
 }
 
 /// Sides whose calls leave nothing behind and can be repeated.

@@ -1,7 +1,8 @@
-//! Tables whose answers are known from the paper or from a source document,
-//! and not from any program.
+//! Tables and date texts whose answers are known from the paper, from a source
+//! document or by hand, and not from any program.
 
 pub mod crossword;
 pub mod figures;
 pub mod hard;
 pub mod paper;
+pub mod short_dates;

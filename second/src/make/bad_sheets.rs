@@ -1,6 +1,8 @@
 //! Damage to sheets.
 
-use super::sheets::{date_text, day_field, days_record, gap_record, pair_record, Draft, Record};
+use super::sheets::{
+    date_text, day_field, days_record, gap_record, pair_record, short_text, Draft, Record,
+};
 use crate::limits::{FIELDS, LAST_DAY, READINGS};
 use crate::random::Random;
 
@@ -43,7 +45,7 @@ fn change(random: &mut Random, mut bytes: Vec<u8>) -> Vec<u8> {
         let at = random.below(bytes.len());
         bytes[at] = match random.below(4) {
             0 => random.byte(),
-            1 => random.pick(b"DTFGPRENdt/.-:0123456789"),
+            1 => random.pick(b"DTSFGPRENdt/.-:0123456789"),
             2 => random.pick(&[0, 1, 2, 15, 16, 17, 31, 32, 33, 0x7f, 0x80, 0xff]),
             _ => bytes[at] ^ 1 << random.below(8),
         };
@@ -71,9 +73,10 @@ fn drop_one(random: &mut Random, mut draft: Draft) -> Vec<u8> {
 
 /// Bytes after EN.
 fn lengthen(random: &mut Random, mut bytes: Vec<u8>) -> Vec<u8> {
-    match random.below(3) {
+    match random.below(4) {
         0 => bytes.extend(b"EN"),
         1 => bytes.push(random.byte()),
+        2 => bytes.extend(b"DS01/02/03"),
         _ => bytes.extend(b"DT01/02/2003"),
     }
     bytes
@@ -88,7 +91,7 @@ fn many_fields(random: &mut Random, mut draft: Draft) -> Vec<u8> {
         draft.add_field(random, 3, dated);
     }
     if random.percent(20) {
-        draft.records.push(b"FD".to_vec());
+        draft.records.push(random.pick(&[b"FD", b"DS"]).to_vec());
     }
     draft.records.extend(rules);
     draft.bytes()
@@ -106,6 +109,9 @@ fn bad_record(random: &mut Random, draft: &Draft) -> Record {
                 b"fd",
                 b"TD",
                 b"DF",
+                b"ds",
+                b"SD",
+                b"SS",
                 b"gp",
                 b"EP",
                 b"PN",
@@ -118,20 +124,26 @@ fn bad_record(random: &mut Random, draft: &Draft) -> Record {
     }
 }
 
+/// A DT or a DS record with a fault in its text, or with the other's text.
 fn bad_date(random: &mut Random) -> Record {
-    let text = date_text(random, 99, 99);
+    let short = random.percent(50);
+    let text = if short { short_text(random, 99) } else { date_text(random, 99, 99) };
     let mut bytes = text.into_bytes();
+    let any = random.below(bytes.len());
     match random.below(5) {
         0 => bytes[random.pick(&[2, 5])] = random.pick(b"/.- :0"),
+        1 if short => bytes[6..].copy_from_slice(random.pick(&[b"x0", b"0x", b"/4", b"4 "])),
         1 => bytes[6..]
             .copy_from_slice(random.pick(&[b"1999", b"2100", b"1900", b"3000", b"0000", b"20x0"])),
-        2 => bytes[random.below(10)] = random.byte(),
+        2 => bytes[any] = random.byte(),
         3 => bytes[..6].copy_from_slice(
             random.pick(&[b"30/02/", b"31.04.", b"00-00-", b"29/02/", b"12/31/", b"13/13/"]),
         ),
         _ => {}
     }
-    [b"DT", &bytes[..]].concat()
+    let other = random.percent(15);
+    let mark = if short != other { b"DS" } else { b"DT" };
+    [mark, &bytes[..]].concat()
 }
 
 fn bad_days(random: &mut Random) -> Record {

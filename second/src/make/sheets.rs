@@ -21,9 +21,18 @@ impl Draft {
             let dated = random.percent(50);
             draft.add_field(random, readings, dated);
         }
-        for _ in 0..rules {
-            draft.add_rule(random);
+        draft.add_rules(random, rules);
+        draft
+    }
+
+    /// A good sheet of so many DS fields and rules.
+    pub fn short_dates(random: &mut Random, fields: usize, rules: usize) -> Draft {
+        let mut draft = Draft::default();
+        for _ in 0..fields {
+            let (record, days) = read_date(random, some_short_text);
+            draft.push(record, days);
         }
+        draft.add_rules(random, rules);
         draft
     }
 
@@ -62,9 +71,11 @@ impl Draft {
         self.push(record, days);
     }
 
-    fn add_rule(&mut self, random: &mut Random) {
-        let gap = random.percent(60);
-        self.add_rule_of(random, gap);
+    fn add_rules(&mut self, random: &mut Random, rules: usize) {
+        for _ in 0..rules {
+            let gap = random.percent(60);
+            self.add_rule_of(random, gap);
+        }
     }
 
     fn add_rule_of(&mut self, random: &mut Random, gap: bool) {
@@ -141,21 +152,50 @@ pub fn days_record(days: &[u16]) -> Record {
     record
 }
 
+/// DS for a text of eight bytes, DT for any other.
 pub fn date_record(text: &str) -> Record {
-    [b"DT", text.as_bytes()].concat()
+    let mark = if text.len() == date::SHORT { b"DS" } else { b"DT" };
+    [mark, text.as_bytes()].concat()
 }
 
-/// A text of the right shape and year, with numbers up to these.
+fn separator(random: &mut Random) -> char {
+    random.pick(&['/', '.', '-'])
+}
+
+/// A text with a year of four digits, with numbers up to these.
 pub fn date_text(random: &mut Random, most_first: i64, most_second: i64) -> String {
-    let separator = random.pick(&['/', '.', '-']);
+    let separator = separator(random);
     let (first, second) = (random.between(0, most_first), random.between(0, most_second));
     let year = random.between(2000, 2099);
     format!("{first:02}{separator}{second:02}{separator}{year}")
 }
 
+/// A text with a year of two digits, with numbers up to this.
+pub fn short_text(random: &mut Random, most: i64) -> String {
+    let separator = separator(random);
+    let [x, y, z] = [(); 3].map(|()| random.between(0, most));
+    format!("{x:02}{separator}{y:02}{separator}{z:02}")
+}
+
+/// Often one whose three meanings are all real.
+fn some_short_text(random: &mut Random) -> String {
+    let most = random.pick(&[12, 12, 31, 99]);
+    short_text(random, most)
+}
+
+/// A DT or a DS record, and the days.
 fn date_field(random: &mut Random) -> (Record, Vec<u16>) {
+    if random.percent(50) {
+        read_date(random, some_short_text)
+    } else {
+        read_date(random, |random| date_text(random, 31, 13))
+    }
+}
+
+/// The first of the texts made that is read.
+fn read_date(random: &mut Random, made: fn(&mut Random) -> String) -> (Record, Vec<u16>) {
     loop {
-        let text = date_text(random, 31, 13);
+        let text = made(random);
         if let Ok(days) = date::read(text.as_bytes()) {
             return (date_record(&text), days.as_slice().to_vec());
         }

@@ -1,6 +1,7 @@
 //! Reading a sheet: one pass that only looks, then one that writes.
 
 use super::{cell_mut, date, take_lowest, Cell};
+use crate::date::{DATES, LONG, SHORT};
 use crate::limits::{FIELDS, LAST_DAY, READINGS};
 use crate::refusal::Refusal;
 use crate::sheet::check_lengths;
@@ -42,9 +43,10 @@ fn look(sheet: &[u8]) -> Result<Fields, Refusal> {
             return Err(Refusal::at(15, at));
         }
         let length = match &record[..2] {
-            b"DT" | b"FD" if ruled => Err(17),
-            b"DT" | b"FD" if fields.n == FIELDS => Err(18),
-            b"DT" => fields.date(record),
+            b"DT" | b"DS" | b"FD" if ruled => Err(17),
+            b"DT" | b"DS" | b"FD" if fields.n == FIELDS => Err(18),
+            b"DT" => fields.date::<LONG>(record),
+            b"DS" => fields.date::<SHORT>(record),
             b"FD" => fields.listed(record),
             b"GP" | b"PR" => {
                 fields.rules = if ruled { fields.rules } else { at };
@@ -64,13 +66,14 @@ fn look(sheet: &[u8]) -> Result<Fields, Refusal> {
 }
 
 impl Fields {
-    fn date(&mut self, record: &[u8]) -> Result<usize, u8> {
-        let text = record.get(2..12).ok_or(15)?;
+    /// A date text of so many bytes.
+    fn date<const TEXT: usize>(&mut self, record: &[u8]) -> Result<usize, u8> {
+        let text = record.get(2..2 + TEXT).ok_or(15)?;
         let days = date::read(text).map_err(|refusal| refusal.number)?;
-        self.days[self.n][..2].copy_from_slice(&days.day);
+        self.days[self.n][..DATES].copy_from_slice(&days.day);
         self.sizes[self.n] = days.count as u8;
         self.n += 1;
-        Ok(12)
+        Ok(2 + TEXT)
     }
 
     fn listed(&mut self, record: &[u8]) -> Result<usize, u8> {

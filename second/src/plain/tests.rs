@@ -1,6 +1,7 @@
 //! The fast versions answer as the reference does, keen or not.
 
 use super::*;
+use crate::known::short_dates;
 use crate::make::{bad_sheets, bad_tables, sheets, slow, tables};
 use crate::random::Random;
 use crate::sheet::{LENT_DAYS, LENT_SIZES, LENT_WORDS};
@@ -93,25 +94,31 @@ fn sheets_good_and_damaged() {
     }
 }
 
+fn same_date(text: &str) {
+    assert_eq!(date::read(text.as_bytes()), crate::date::read(text.as_bytes()), "{text}");
+}
+
+/// Every text of ten bytes from 1999 to 2100 with one of the separators, and
+/// some that nearly are.
 #[test]
 fn date_texts() {
-    for first in 0..100 {
-        for second in 0..100 {
-            for year in 1999..=2100 {
-                let text = format!("{first:02}-{second:02}-{year}");
-                assert_eq!(
-                    date::read(text.as_bytes()),
-                    crate::date::read(text.as_bytes()),
-                    "{text}"
-                );
-            }
-        }
+    for number in 0..1_020_000 {
+        let (x, y, year) = (number / 10_200, number / 102 % 100, 1999 + number % 102);
+        same_date(&format!("{x:02}-{y:02}-{year}"));
     }
-    for text in
-        ["", "01/02/200", "01/02/20033", "01/02.2003", "01:02:2003", "0x/02/2003", "01/02/2oo3"]
-    {
-        assert_eq!(date::read(text.as_bytes()), crate::date::read(text.as_bytes()), "{text}");
+    ["", "01/02/200", "01/02/20033", "01/02.2003", "01:02:2003", "0x/02/2003", "01/02/2oo3"]
+        .into_iter()
+        .for_each(same_date);
+}
+
+/// Every text of eight bytes with one of the separators, and those known by hand.
+#[test]
+fn short_date_texts() {
+    for number in 0..1_000_000 {
+        let (x, y, z) = (number / 10_000, number / 100 % 100, number % 100);
+        same_date(&format!("{x:02}.{y:02}.{z:02}"));
     }
+    short_dates::TEXTS.iter().for_each(|(text, _)| same_date(text));
 }
 
 #[test]

@@ -15,6 +15,7 @@ mod tables;
 use std::process::ExitCode;
 
 use check::{Checked, Run, Tally};
+use second::known::{paper, short_dates};
 use second::random::Random;
 
 const DEFAULT_SEED: u64 = 20_240_502;
@@ -23,18 +24,27 @@ type Part = fn(&mut Run, &mut Random, u64) -> Checked<()>;
 
 /// Name, number of cases (each of them several calls), what one case does.
 /// What takes longest comes last.
-const PARTS: [(&str, u64, Part); 19] = [
-    ("the paper's date texts", 10, dates::known),
-    ("every date text", 102, dates::every_text),
-    ("damaged date texts", 20, dates::damaged),
+const PARTS: [(&str, u64, Part); 24] = [
+    ("the paper's date texts", paper::DATES.len() as u64, dates::papers),
+    (
+        "known date texts with a year of two digits, or nearly",
+        short_dates::TEXTS.len() as u64,
+        dates::short_ones,
+    ),
+    ("every date text of ten bytes", 102, dates::every_text),
+    ("every date text of eight bytes", 100, dates::every_short_text),
+    ("damaged date texts of ten bytes", 20, dates::damaged),
+    ("damaged date texts of eight bytes", 20, dates::damaged_short),
     ("examples C1 to C6", 1, known::examples),
     ("document 000, figure 6", 1, known::figure_6),
     ("document 004, the crossword", 1, known::crossword_puzzle),
     ("document 003, hard examples", 1, known::hard_examples),
-    ("every byte of a sheet", 43, sheets::every_byte),
+    ("every byte of a sheet", 59, sheets::every_byte),
     ("every mark", 65_536, sheets::every_mark),
     ("damaged sheets", 60_000, sheets::damaged),
     ("sheets cut at every byte", 150, sheets::cut),
+    ("sheets of DS cut at every byte", 160, sheets::short_dates_cut),
+    ("fields out of place", 2_000, sheets::misplaced),
     ("longest sheets", 200, sheets::longest),
     ("good sheets", 30_000, sheets::good),
     ("full readings by enumeration", 12_000, full::enumerated),

@@ -1,9 +1,10 @@
 //! Random sheets, good and damaged.
 
-use second::limits::SHEET_BYTES;
+use second::limits::{FIELDS, SHEET_BYTES};
 use second::make::bad_sheets::spoil;
 use second::make::sheets::{date_record, days_record, gap_record, pair_record, Draft};
 use second::random::Random;
+use second::refusal::Refusal;
 use second::sheet::{LENT_DAYS, LENT_SIZES, LENT_WORDS};
 use second::table::Owned;
 
@@ -66,12 +67,61 @@ pub fn damaged(run: &mut Run, random: &mut Random, _: u64) -> Checked<()> {
 /// A good sheet cut at every byte.
 pub fn cut(run: &mut Run, random: &mut Random, case: u64) -> Checked<()> {
     let draft = if case < 2 { Draft::full(random, 16, case == 0) } else { draft(random) };
-    let bytes = draft.bytes();
+    every_start(run, &draft.bytes())
+}
+
+fn every_start(run: &mut Run, bytes: &[u8]) -> Checked<()> {
     for length in 0..=bytes.len() {
         read(run, &bytes[..length], EXACT)?;
     }
     Ok(())
 }
+
+/// A good sheet of DS fields alone and a few rules, cut at every byte.
+pub fn short_dates_cut(run: &mut Run, random: &mut Random, case: u64) -> Checked<()> {
+    let (fields, rules) = (1 + case as usize % FIELDS, random.below(6));
+    let bytes = Draft::short_dates(random, fields, rules).bytes();
+    let answer = read(run, &bytes, EXACT)?.0;
+    claim(run, answer.is_ok(), "a good sheet of DS fields is read", &bytes, &[])?;
+    every_start(run, &bytes)
+}
+
+/// A DT, DS or FD record, right or wrong and cut at every byte, where no field
+/// may follow: after a rule, with fewer than 16 fields and with 16, and after
+/// the 16th field. Its mark is all that is looked at.
+pub fn misplaced(run: &mut Run, random: &mut Random, case: u64) -> Checked<()> {
+    let record = random.pick(&FIELD_RECORDS);
+    let number = random.pick(&[17, 17, 18]);
+    let fields = if number == 18 { FIELDS } else { 2 + random.below(FIELDS - 1) };
+    let mut draft = match case % 2 {
+        0 => Draft::short_dates(random, fields, 0),
+        _ => Draft::good(random, fields, 3, 0),
+    };
+    if number == 17 {
+        let rules = [gap_record(0, 1, -9, 9), pair_record(0, 1, 0, 0)];
+        draft.records.push(rules[random.below(rules.len())].clone());
+    }
+    let before = draft.records.concat();
+    for length in 0..=record.len() {
+        let bytes = [&before, &record[..length]].concat();
+        let want = Refusal::at(if length < 2 { 15 } else { number }, before.len());
+        let got = read(run, &bytes, EXACT)?.0.err();
+        claim(run, got == Some(want), "a field's place is judged by its mark", &bytes, &[])?;
+    }
+    Ok(())
+}
+
+/// Of each mark of a field one that is right and at least one that is not.
+const FIELD_RECORDS: [&[u8]; 8] = [
+    b"DT02/05/2024EN",
+    b"DT31/02/2030EN",
+    b"DS02/03/04EN",
+    b"DS31/02/30EN",
+    b"DS02/03.04EN",
+    b"DS02/03/2004EN",
+    b"FD\x01\x00\x07EN",
+    b"FD\x00EN",
+];
 
 /// Sheets of 4,096 bytes, and the same with a byte more or less, or with a few changed.
 pub fn longest(run: &mut Run, random: &mut Random, case: u64) -> Checked<()> {
@@ -105,8 +155,13 @@ pub fn longest(run: &mut Run, random: &mut Random, case: u64) -> Checked<()> {
 pub fn every_mark(run: &mut Run, random: &mut Random, case: u64) -> Checked<()> {
     let mark = (case as u16).to_be_bytes();
     read(run, &mark, EXACT)?;
-    let behind =
-        random.pick(&[&b"\0\0\0\0EN"[..], b"\0\x01\0\0\0\0EN", b"\x01\0\0EN", b"03/04/2005EN"]);
+    let behind = random.pick(&[
+        &b"\0\0\0\0EN"[..],
+        b"\0\x01\0\0\0\0EN",
+        b"\x01\0\0EN",
+        b"03/04/2005EN",
+        b"03/04/05EN",
+    ]);
     read(run, &[b"DT01/02/2003", &mark[..], behind].concat(), EXACT)?;
     Ok(())
 }
@@ -115,10 +170,12 @@ pub fn every_mark(run: &mut Run, random: &mut Random, case: u64) -> Checked<()> 
 pub fn every_byte(run: &mut Run, _: &mut Random, case: u64) -> Checked<()> {
     let records = [
         date_record("02-05-2024"),
+        date_record("02.03.04"),
         days_record(&[255, 256, 36_524]),
-        gap_record(0, 1, -8_546, 32_767),
-        pair_record(1, 1, 2, 2),
-        pair_record(0, 1, 1, 0),
+        gap_record(0, 2, -8_546, 32_767),
+        pair_record(2, 2, 2, 2),
+        pair_record(0, 2, 1, 0),
+        pair_record(1, 0, 2, 1),
         b"EN".to_vec(),
     ];
     let mut bytes = records.concat();
