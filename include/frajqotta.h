@@ -51,9 +51,10 @@ extern "C" {
 #define FQ_WORDS_LENT FQ_TABLE_LENGTH(FQ_FIELDS_MOST)
 
 /*
- * The days that a date text can mean.
+ * The days that a date text can mean: ten bytes with a year of four digits (03/07/2024: one or two
+ * days), or eight with a year of two (02/03/04: one to three).
  * Result: bits 8-15 their count; the days, ascending, 16 bits each from bit 16.
- * Refused by 19 and 20, without a place.
+ * Refused by 19 (any other length included) and 20, without a place.
  */
 uint64_t fq_date(const uint8_t *text, size_t text_length);
 

@@ -1,6 +1,6 @@
 /*
- * The C interface in use: the paper's example C2 from its sheet to the days chosen, then a refusal of
- * each number. certificate.expected holds what it must print, worked out from the paper.
+ * The C interface in use: date texts, the paper's example C2 from its sheet to the days chosen, then a
+ * refusal of each number. certificate.expected holds what it must print, worked out from the paper.
  */
 #include "frajqotta.h"
 
@@ -201,6 +201,7 @@ static void refuse_sheets(void)
 int main(void)
 {
     print_date("03/07/2024");
+    print_date("02/03/04");
     print_date("03/07-2024");
     print_date("29/02/2023");
     print_example();
