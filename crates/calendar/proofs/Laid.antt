@@ -1,15 +1,20 @@
 -- A text's places in order, put together from tests of one place and of two.
-use mathlib.Core.Path.{_≡_, sym, subst}
+use mathlib.Core.Path.{_≡_, sym, subst, _∙_}
 use mathlib.Core.Bool.{Bool, true, false, _&&_}
 use mathlib.Core.List.{List}
-use Prim.Native.Nat.{ℕ, suc, _+_, _≤_, _<_}
+use Prim.Native.Nat.{ℕ, _+_, _≤_, _<_}
 use native.Mathlib.Omega.{arith}
 use lib.Dec.{T, eqb, eqb→eq, eqb-refl}
 use lib.ListN.{length, getD}
 use borrow.Author.Tests.{eq-eqb}
 use Rattle.theory.specs.Bound.{all}
-use Rattle.theory.specs.BoundLaws.{and-i, and-l, and-r, all-i, all-e, upto, T-ext}
+use Rattle.theory.specs.BoundLaws.{and-i, and-l, and-r, all-i, all-e, T-ext}
 use Rattle.calendar.specs.DateText.{dateLength, fitsAt, laidOut, shapedLong}
+use Rattle.calendar.specs.WritingLaws.{eight-places}
+
+-- what a test that was passed has tested
+pub passed : {a b : Bool} → a ≡ b → a ≡ true → T b
+passed e h = subst T (sym h ∙ e) tt
 
 -- any test of places
 
@@ -23,32 +28,9 @@ module _ (n : ℕ) (f : ℕ → Bool) where
   pub front-out : (m : ℕ) → m ≤ n → all m f ≡ false → false ≡ all n f
   front-out m h e = T-ext false (all n f) absurd (λ t. subst T e (all-i m f (λ i l. all-e n f t i (omega arith))))
 
--- two places more
-pub two-more : (n : ℕ) (f : ℕ → Bool) → T (all n f) → T (f n && f (n + 1)) → T (all (suc (suc n)) f)
-unfolding all
-two-more n f a e =
-    let next : n + 1 ≡ suc n = omega arith in
-    and-i (all n f && f n) (f (suc n)) (and-i (all n f) (f n) a (and-l (f n) _ e)) (rw next at (and-r (f n) (f (n + 1)) e))
-
--- the places that both kinds of text have
+-- past the other tests of a text's first eight places, the last one says it of all
 pub front-all : (f : ℕ → Bool) → T (f 2) → T (f 5) → T (f 0 && f 1) → T (f 3 && f 4) → (f 6 && f 7) ≡ all 8 f
-front-all f c d a b = T-ext (f 6 && f 7) (all 8 f) there (λ t. and-i (f 6) (f 7) (all-e 8 f t 6 (omega arith)) (all-e 8 f t 7 (omega arith)))
-  where
-    up : (k : ℕ) → T (f k) → ((e : ℕ) → e < k → T (f e)) → (e : ℕ) → e < suc k → T (f e)
-    up k = upto {k = k} (λ i. T (f i))
-
-    there : T (f 6 && f 7) → T (all 8 f)
-    there e =
-        all-i 8 f
-        (up 7 (and-r (f 6) (f 7) e)
-        (up 6 (and-l (f 6) (f 7) e)
-        (up 5 d
-        (up 4 (and-r (f 3) (f 4) b)
-        (up 3 (and-l (f 3) (f 4) b)
-        (up 2 c
-        (up 1 (and-r (f 0) (f 1) a)
-        (up 0 (and-l (f 0) (f 1) a)
-        (λ i h. absurd (omega arith))))))))))
+front-all f s t a b = T-ext (f 6 && f 7) (all 8 f) (eight-places f a s b t) (λ h. and-i (f 6) (f 7) (all-e 8 f h 6 (omega arith)) (all-e 8 f h 7 (omega arith)))
 
 -- the places of the separator
 

@@ -14,7 +14,7 @@ use Rattle.calendar.specs.Calendar.{firstYear, lastYear, Date, real, day
 use Rattle.calendar.specs.CalendarLaws.{month-most, real-in}
 use Rattle.calendar.specs.Ascending.{ascending, insert}
 use Rattle.calendar.specs.AscendingLaws.{ascending-places, insert-ascending, insert-length, insert-has, insert-new, insert-old}
-use Rattle.calendar.specs.DateText.{dateLength, shortLength, datesMost, Order, dayFirst, monthFirst, shortDayFirst, shortMonthFirst, shortYearFirst, written, lengthOf, yearIn, shortYearAt, readAs, laidOut, shapedLong, isShort, shapedDate, withReal, daysOf, shown, means, Writing, Reading}
+use Rattle.calendar.specs.DateText.{dateLength, shortLength, datesMost, Order, dayFirst, monthFirst, shortDayFirst, shortMonthFirst, shortYearFirst, written, lengthOf, pairAt, yearIn, shortYearAt, readAs, laidOut, shapedLong, isShort, shapedDate, withReal, daysOf, shown, means, Writing, Reading}
 use Rattle.calendar.specs.WritingLaws.{laid-length, laid-mark, first-pair, second-pair, third-pair, written-read, written-laid, read-written, written-length}
 
 -- short texts and others
@@ -64,13 +64,21 @@ module _ (sep : ℕ → Bool) (text : List ℕ) (h : T (shapedLong sep text)) wh
 
 -- a short one: each of its pairs is a year of the century
 module _ (sep : ℕ → Bool) (text : List ℕ) (h : T (laidOut sep shortLength text)) where
-  last-year : (firstYear ≤ shortYearAt text 6) × (shortYearAt text 6 ≤ lastYear)
+  closing-year : (firstYear ≤ shortYearAt text 6) × (shortYearAt text 6 ≤ lastYear)
   unfolding shortYearAt
-  last-year = let p = third-pair sep shortLength text h (omega arith) .0 in (omega arith, omega arith)
+  closing-year = let p = third-pair sep shortLength text h (omega arith) .0 in (omega arith, omega arith)
 
-  first-year : (firstYear ≤ shortYearAt text 0) × (shortYearAt text 0 ≤ lastYear)
+  leading-year : (firstYear ≤ shortYearAt text 0) × (shortYearAt text 0 ≤ lastYear)
   unfolding shortYearAt
-  first-year = let p = first-pair sep shortLength text h (omega arith) .0 in (omega arith, omega arith)
+  leading-year = let p = first-pair sep shortLength text h (omega arith) .0 in (omega arith, omega arith)
+
+-- a text of any order has three pairs
+order-long : (o : Order) → 7 < lengthOf o
+order-long dayFirst = omega arith
+order-long monthFirst = omega arith
+order-long shortDayFirst = omega arith
+order-long shortMonthFirst = omega arith
+order-long shortYearFirst = omega arith
 
 -- a text of the shape, read in an order of its length
 module _ (sep : ℕ → Bool) (text : List ℕ) (h : T (shapedDate sep text)) where
@@ -91,19 +99,12 @@ module _ (sep : ℕ → Bool) (text : List ℕ) (h : T (shapedDate sep text)) wh
   unfolding readAs
   years-in dayFirst e = long-years sep text (as-long e)
   years-in monthFirst e = long-years sep text (as-long e)
-  years-in shortDayFirst e = last-year sep text (as-short e)
-  years-in shortMonthFirst e = last-year sep text (as-short e)
-  years-in shortYearFirst e = first-year sep text (as-short e)
+  years-in shortDayFirst e = closing-year sep text (as-short e)
+  years-in shortMonthFirst e = closing-year sep text (as-short e)
+  years-in shortYearFirst e = leading-year sep text (as-short e)
 
   mark-in : (o : Order) → length text ≡ lengthOf o → T (sep (getD text 2 0))
-  mark-in o e = laid-mark sep (lengthOf o) text (laid-in o e) (two o)
-    where
-      two : (o : Order) → 2 < lengthOf o
-      two dayFirst = omega arith
-      two monthFirst = omega arith
-      two shortDayFirst = omega arith
-      two shortMonthFirst = omega arith
-      two shortYearFirst = omega arith
+  mark-in o e = laid-mark sep (lengthOf o) text (laid-in o e) (omega (arith, order-long o))
 
   -- a real date that the text shows is one of its readings
   shaped-reading : (o : Order) → length text ≡ lengthOf o → T (real (readAs o text)) → Reading sep text (dayOf (readAs o text))
@@ -120,11 +121,16 @@ module _ (sep : ℕ → Bool) (text : List ℕ) (h : T (shapedDate sep text)) wh
   -- day and month have two digits each
   figures-in : (o : Order) → length text ≡ lengthOf o → (readAs o text .day < 100) × (readAs o text .month < 100)
   unfolding readAs
-  figures-in dayFirst e = (first-pair sep dateLength text (long-laid sep text (as-long e)) (omega arith) .0, second-pair sep dateLength text (long-laid sep text (as-long e)) (omega arith) .0)
-  figures-in monthFirst e = (second-pair sep dateLength text (long-laid sep text (as-long e)) (omega arith) .0, first-pair sep dateLength text (long-laid sep text (as-long e)) (omega arith) .0)
-  figures-in shortDayFirst e = (first-pair sep shortLength text (as-short e) (omega arith) .0, second-pair sep shortLength text (as-short e) (omega arith) .0)
-  figures-in shortMonthFirst e = (second-pair sep shortLength text (as-short e) (omega arith) .0, first-pair sep shortLength text (as-short e) (omega arith) .0)
-  figures-in shortYearFirst e = (third-pair sep shortLength text (as-short e) (omega arith) .0, second-pair sep shortLength text (as-short e) (omega arith) .0)
+  figures-in o e =
+      let l = order-long o in
+      go o (first-pair sep (lengthOf o) text (laid-in o e) l .0) (second-pair sep (lengthOf o) text (laid-in o e) l .0) (third-pair sep (lengthOf o) text (laid-in o e) l .0)
+    where
+      go : (o : Order) → pairAt text 0 < 100 → pairAt text 3 < 100 → pairAt text 6 < 100 → (readAs o text .day < 100) × (readAs o text .month < 100)
+      go dayFirst a b c = (a, b)
+      go monthFirst a b c = (b, a)
+      go shortDayFirst a b c = (a, b)
+      go shortMonthFirst a b c = (b, a)
+      go shortYearFirst a b c = (c, b)
 
 -- a text of the shape has the length of some order
 shaped-order : (sep : ℕ → Bool) (text : List ℕ) → T (shapedDate sep text) → (o : Order) × (length text ≡ lengthOf o)

@@ -6,7 +6,8 @@ use Prim.Native.Nat.{ℕ, zero, suc, _+_, _-_, _*_, _/_, _%_, _≤_, _<_}
 use native.Mathlib.Omega.{arith}
 use lib.Dec.{T, leb, eqb, leb→le, le→leb, eqb→eq, eqb-refl}
 use lib.ListN.{length, getD}
-use Rattle.theory.specs.BoundLaws.{and-i, and-l, and-r, all-i, all-e, upto}
+use Rattle.theory.specs.Bound.{all}
+use Rattle.theory.specs.BoundLaws.{and-i, and-l, and-r, all-e}
 use Rattle.calendar.specs.Calendar.{firstYear, lastYear, Date}
 use Rattle.calendar.specs.DateText.{dateLength, shortLength, Order, dayFirst, monthFirst, shortDayFirst, shortMonthFirst, shortYearFirst, twoDigits, fourDigits, parted, written, lengthOf, pairAt, yearIn, shortYearAt, readAs, digit, fitsAt, laidOut}
 
@@ -39,6 +40,20 @@ spread zero [] e = refl
 spread zero (x ∷ l) e = absurd (omega arith)
 spread (suc n) [] e = absurd (omega arith)
 spread (suc n) (x ∷ l) e = ap (λ (r : List ℕ). x ∷ r) (spread n l (omega arith))
+
+-- places in order, put together
+
+one-more : (n : ℕ) (f : ℕ → Bool) → T (all n f) → T (f n) → T (all (suc n) f)
+unfolding all
+one-more n f a e = and-i (all n f) (f n) a e
+
+pub two-more : (n : ℕ) (f : ℕ → Bool) → T (all n f) → T (f n && f (suc n)) → T (all (suc (suc n)) f)
+two-more n f a e = one-more (suc n) f (one-more n f a (and-l (f n) _ e)) (and-r (f n) (f (suc n)) e)
+
+-- those that both kinds of text have
+pub eight-places : (f : ℕ → Bool) → T (f 0 && f 1) → T (f 2) → T (f 3 && f 4) → T (f 5) → T (f 6 && f 7) → T (all 8 f)
+unfolding all
+eight-places f a s b t c = two-more 6 f (one-more 5 f (two-more 3 f (one-more 2 f (two-more 0 f tt a) s) b) t) c
 
 -- a text laid out
 
@@ -125,11 +140,8 @@ written-read sep text shortYearFirst h = rw (short-year (pairAt text 0) (first-p
 
 -- what is written
 
-high : (n : ℕ) → n < 100 → T (digit (48 + n / 10))
-high n h = digit-of (48 + n / 10) (omega arith) (omega arith)
-
-low : (n : ℕ) → T (digit (48 + n % 10))
-low n = digit-of (48 + n % 10) (omega arith) (omega arith)
+digits : (n : ℕ) → n < 100 → T (digit (48 + n / 10) && digit (48 + n % 10))
+digits n h = and-i (digit (48 + n / 10)) _ (digit-of (48 + n / 10) (omega arith) (omega arith)) (digit-of (48 + n % 10) (omega arith) (omega arith))
 
 -- three numbers of two digits with s between them, and what comes after
 module _ (sep : ℕ → Bool) (s a b c : ℕ) (rest : List ℕ) (hs : T (sep s)) (ha : a < 100) (hb : b < 100) (hc : c < 100) where
@@ -148,24 +160,12 @@ module _ (sep : ℕ → Bool) (s a b c : ℕ) (rest : List ℕ) (hs : T (sep s))
   unfolding pairAt parted twoDigits
   front-third = omega arith
 
-  front-fits : (i : ℕ) → i < 8 → T (fitsAt sep front i)
+  front-fits : T (all shortLength (fitsAt sep front))
   unfolding fitsAt parted twoDigits
-  front-fits =
-      up 7 (low c)
-      (up 6 (high c hc)
-      (up 5 mark
-      (up 4 (low b)
-      (up 3 (high b hb)
-      (up 2 mark
-      (up 1 (low a)
-      (up 0 (high a ha)
-      (λ i h. absurd (omega arith)))))))))
+  front-fits = eight-places (fitsAt sep front) (digits a ha) mark (digits b hb) mark (digits c hc)
     where
       mark : T (sep s && eqb s s)
       mark = and-i (sep s) (eqb s s) hs (eqb-refl s)
-
-      up : (k : ℕ) → T (fitsAt sep front k) → ((e : ℕ) → e < k → T (fitsAt sep front e)) → (e : ℕ) → e < suc k → T (fitsAt sep front e)
-      up k = upto {k = k} (λ i. T (fitsAt sep front i))
 
 -- with a year of four digits
 module _ (sep : ℕ → Bool) (s a b y : ℕ) (hs : T (sep s)) (ha : a < 100) (hb : b < 100) (hy : y < 10000) where
@@ -176,19 +176,14 @@ module _ (sep : ℕ → Bool) (s a b y : ℕ) (hs : T (sep s)) (ha : a < 100) (h
   unfolding yearIn pairAt parted fourDigits twoDigits
   long-year = omega arith
 
-  long-laid : T (laidOut sep dateLength long)
+  long-fits : T (laidOut sep dateLength long)
   unfolding laidOut fitsAt parted fourDigits twoDigits
-  long-laid =
-      all-i 10 (fitsAt sep long)
-      (upto {k = 9} (λ i. T (fitsAt sep long i)) (low (y % 100))
-      (upto {k = 8} (λ i. T (fitsAt sep long i)) (high (y % 100) (omega arith))
-      (front-fits sep s a b (y / 100) (twoDigits (y % 100)) hs ha hb (omega arith))))
+  long-fits = two-more shortLength (fitsAt sep long) (front-fits sep s a b (y / 100) (twoDigits (y % 100)) hs ha hb (omega arith)) (digits (y % 100) (omega arith))
 
 -- with a year of two
-module _ (sep : ℕ → Bool) (s a b c : ℕ) (hs : T (sep s)) (ha : a < 100) (hb : b < 100) (hc : c < 100) where
-  short-laid : T (laidOut sep shortLength (parted s (twoDigits a) (twoDigits b) (twoDigits c)))
-  unfolding laidOut parted twoDigits
-  short-laid = all-i 8 (fitsAt sep (front sep s a b c [] hs ha hb hc)) (front-fits sep s a b c [] hs ha hb hc)
+short-fits : (sep : ℕ → Bool) (s a b c : ℕ) → T (sep s) → a < 100 → b < 100 → c < 100 → T (laidOut sep shortLength (parted s (twoDigits a) (twoDigits b) (twoDigits c)))
+unfolding laidOut parted twoDigits
+short-fits sep s a b c hs ha hb hc = front-fits sep s a b c [] hs ha hb hc
 
 -- a date of the century's years
 
@@ -204,11 +199,11 @@ module _ (sep : ℕ → Bool) (s : ℕ) (t : Date) (hs : T (sep s)) (hd : t .day
 
   pub written-laid : (o : Order) → T (laidOut sep (lengthOf o) (written o s t))
   unfolding written
-  written-laid dayFirst = long-laid sep s (t .day) (t .month) (t .year) hs hd hm y4
-  written-laid monthFirst = long-laid sep s (t .month) (t .day) (t .year) hs hm hd y4
-  written-laid shortDayFirst = short-laid sep s (t .day) (t .month) (t .year % 100) hs hd hm y2
-  written-laid shortMonthFirst = short-laid sep s (t .month) (t .day) (t .year % 100) hs hm hd y2
-  written-laid shortYearFirst = short-laid sep s (t .year % 100) (t .month) (t .day) hs y2 hm hd
+  written-laid dayFirst = long-fits sep s (t .day) (t .month) (t .year) hs hd hm y4
+  written-laid monthFirst = long-fits sep s (t .month) (t .day) (t .year) hs hm hd y4
+  written-laid shortDayFirst = short-fits sep s (t .day) (t .month) (t .year % 100) hs hd hm y2
+  written-laid shortMonthFirst = short-fits sep s (t .month) (t .day) (t .year % 100) hs hm hd y2
+  written-laid shortYearFirst = short-fits sep s (t .year % 100) (t .month) (t .day) hs y2 hm hd
 
   -- and is read back
   pub read-written : (o : Order) → readAs o (written o s t) ≡ t

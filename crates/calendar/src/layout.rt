@@ -22,7 +22,7 @@ fn is_digit(b: u8) -> bool
     b'0' <= b && b <= b'9'
 }
 
-// The two bytes from place `i` on.
+// The two bytes from place `i` on are digits.
 fn digits_at(text: &[u8], i: usize) -> bool
     requires { ⌜ i + 1 < length (now text) ⌝ }
     ensures { λ r. ⌜ r ≡ (digit (getD (now (text .entry)) i 0) && digit (getD (now (text .entry)) (i + 1) 0)) ⌝ }

@@ -60,7 +60,7 @@ fn answered(found: Found) -> DateRead
     }
 }
 
-// Any other length, of which only that of DT is right: the year has four digits and comes last.
+// Not eight bytes: of the other lengths only that of DT is right, whose year has four digits and comes last.
 fn read_long(text: &[u8]) -> DateRead
     requires { ⌜ (length (now text) ≡ shortLength → ⊥) ⌝ }
     ensures { λ r. ⌜ ReadsDate separator (now (text .entry)) r ⌝ }

@@ -53,7 +53,7 @@ padded-at (x ∷ l) k (suc p) = padded-at l k p
 
 -- the days of a date text are packed as they are meant, with what is said of them
 pub date-packed : (sep : ℕ → Bool) (text : List ℕ) (r : DateRead) {a : ℕ} → ReadsDate sep text r
-    → a ≡ packedSaid (asDays (getD (r .days) 0 0 ∷ getD (r .days) 1 0 ∷ getD (r .days) 2 0 ∷ [])) (saidDate (r .answer))
+    → a ≡ packedSaid (asDays (r .days)) (saidDate (r .answer))
     → a ≡ packedSaid (asDays (means sep text)) (dateSays sep text)
 date-packed sep text r {a} p e = said-packed (asDays l) (p .said) (e ∙ alike (saidDate (r .answer)))
   where
@@ -63,7 +63,7 @@ date-packed sep text r {a} p e = said-packed (asDays l) (p .said) (e ∙ alike (
     at : (k : ℕ) → getD (r .days) k 0 ≡ getD l k 0
     at k = ap (λ (d : List ℕ). getD d k 0) (p .days) ∙ padded-at l (datesMost - length l) k
 
-    alike : (s : Said) → packedSaid (asDays (getD (r .days) 0 0 ∷ getD (r .days) 1 0 ∷ getD (r .days) 2 0 ∷ [])) s ≡ packedSaid (asDays l) s
+    alike : (s : Said) → packedSaid (asDays (r .days)) s ≡ packedSaid (asDays l) s
     alike s = rw (at 0, at 1, at 2)
 
 -- choosing, packed

@@ -10,8 +10,6 @@ use judge::Shown;
 use scan::Opened;
 use settle::Settling;
 ghost use mathlib.Core.Path.{_≡_};
-ghost use mathlib.Core.List.{[], _∷_};
-ghost use lib.ListN.{getD};
 ghost use Rattle.calendar.specs.DateAnswers.{saidDate};
 ghost use Rattle.judge.specs.Answers.{saidRows, saidKept, saidShown};
 ghost use Rattle.settle.specs.Settle.{saidSettling};
@@ -20,7 +18,7 @@ ghost use Rattle.scan.specs.Answer.{saidOpened};
 ghost use Rattle.capi.specs.Packed.{packedSaid, asValues, asDays, asSettling, asRows, asShown};
 
 pub fn date(read: DateRead) -> u64
-    ensures { λ r. ⌜ r ≡ packedSaid (asDays (getD (read .days) 0 0 ∷ getD (read .days) 1 0 ∷ getD (read .days) 2 0 ∷ [])) (saidDate (read .answer)) ⌝ }
+    ensures { λ r. ⌜ r ≡ packedSaid (asDays (read .days)) (saidDate (read .answer)) ⌝ }
 {
     let days = read.days;
     let answer = read.answer;

@@ -20,12 +20,10 @@ use crate::step::Verdict;
 use calendar::DATE_LENGTH;
 use calendar::DATES;
 use calendar::DateAnswer;
+use calendar::LAST_DAY;
 use calendar::SHORT_LENGTH;
 use refusal::Refusal;
 use table::READINGS_MOST;
-
-// The last day that a field may name.
-const LAST_DAY: u16 = 36524;
 
 // What judging the record gives, and the days of its field, then zeros.
 pub struct FieldRead {

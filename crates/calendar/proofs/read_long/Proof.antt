@@ -1,7 +1,7 @@
 -- `calendar::read_long` meets its contract: a text without the shape is refused, and of any other the dates that it shows are taken one after the other.
 use borrow.Author.Needs.{needs}
 use borrow.Author.Tests.{not-true, not-false}
-use mathlib.Core.Path.{sym, subst, _∙_}
+use mathlib.Core.Path.{sym, _∙_}
 use mathlib.Core.List.{[], _∷_}
 use Prim.Native.Nat.{_≤_}
 use native.Mathlib.Omega.{arith}
@@ -14,6 +14,7 @@ use Rattle.calendar.specs.DateTextLaws.{shaped-as-long, shown-long, long
 use Rattle.calendar.specs.DaysFound.{Holds}
 use Rattle.calendar.specs.DateAnswersLaws.{reads-shaped, reads-shapeless}
 use Rattle.calendar.proofs.Held.{held-is, holds-held, room-for}
+use Rattle.calendar.proofs.Laid.{passed}
 use Rattle.calendar.proofs.read_long.Statement.{statement}
 use Rattle.calendar.proofs.read_long.Tie as tie
 
@@ -28,7 +29,7 @@ returns c = reads-shapeless separator _ _ (shaped-as-long _ separator (c .before
 
 -- past the test the text has the shape
 has-shape : (c : tie.Else1) → T (shapedLong separator (c .before .before .before .args .text .now))
-has-shape c = subst T (sym (not-false _ (c .if1 .left)) ∙ c .before .shaped-long .ensures) tt
+has-shape c = passed (c .before .shaped-long .ensures) (not-false _ (c .if1 .left))
 
 year-in-requires : tie.Need-year-in-requires
 year-in-requires c κs = omega (arith, laid-length separator _ _ (long-laid separator _ (has-shape c)))

@@ -1,12 +1,10 @@
 -- `calendar::layout::front_fits` meets its contract: it leaves at a place out of order, and past the last test all are in order.
 use borrow.Author.Needs.{needs}
 use borrow.Author.Tests.{not-true, not-false}
-use mathlib.Core.Path.{_≡_, sym, subst, _∙_}
-use mathlib.Core.Bool.{Bool, true}
+use mathlib.Core.Path.{sym, _∙_}
 use native.Mathlib.Omega.{arith}
-use lib.Dec.{T}
 use Rattle.calendar.specs.DateText.{shortLength, separator, fitsAt}
-use Rattle.calendar.proofs.Laid.{place-out, pair-out, front-all, mark-out, again-out, mark-in, again-in}
+use Rattle.calendar.proofs.Laid.{passed, place-out, pair-out, front-all, mark-out, again-out, mark-in, again-in}
 use Rattle.calendar.proofs.layout.front_fits.Statement.{statement}
 use Rattle.calendar.proofs.layout.front_fits.Tie as tie
 
@@ -44,9 +42,6 @@ returns-4 c = pair-out shortLength (fitsAt separator (c .before .before .before 
 
 digits-at-requires-3 : tie.Need-digits-at-requires-3
 digits-at-requires-3 c κs = search needs
-
-passed : {a b : Bool} → a ≡ b → a ≡ true → T b
-passed e h = subst T (sym h ∙ e) tt
 
 returns-5 : tie.Need-returns-5
 unfolding fitsAt

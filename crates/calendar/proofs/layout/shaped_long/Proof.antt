@@ -1,11 +1,11 @@
 -- `calendar::layout::shaped_long` meets its contract: each way through its tests leaves what the definition has there.
 use borrow.Author.Tests.{ne-eqb, le-leb, lt-leb, not-true, not-false}
-use mathlib.Core.Path.{_≡_, sym, subst, _∙_}
+use mathlib.Core.Path.{_≡_, sym, _∙_}
 use mathlib.Core.Bool.{true}
 use native.Mathlib.Omega.{arith}
-use lib.Dec.{T}
 use Rattle.calendar.specs.DateText.{dateLength, shortLength, separator, fitsAt, laidOut, shapedLong}
-use Rattle.calendar.proofs.Laid.{pair-out, front-out, two-more, long-out, long-in}
+use Rattle.calendar.specs.WritingLaws.{two-more}
+use Rattle.calendar.proofs.Laid.{passed, pair-out, front-out, long-out, long-in}
 use Rattle.calendar.proofs.layout.shaped_long.Statement.{statement}
 use Rattle.calendar.proofs.layout.shaped_long.Tie as tie
 
@@ -37,8 +37,8 @@ laid c =
     let text = two .before .before .before .before .args .text .now in
     long-in separator text (two .before .before .if1 .left)
     (two-more shortLength (fitsAt separator text)
-    (subst T (sym (not-false _ (two .if2 .left)) ∙ two .before .front-fits .ensures) tt)
-    (subst T (sym (not-false _ (c .if3 .left)) ∙ c .before .digits-at .ensures) tt))
+    (passed (two .before .front-fits .ensures) (not-false _ (two .if2 .left)))
+    (passed (c .before .digits-at .ensures) (not-false _ (c .if3 .left))))
 
 returns-4 : tie.Need-returns-4
 unfolding shapedLong

@@ -1,8 +1,6 @@
 -- `date` meets its contract, case by case.
 use borrow.Author.Needs.{needs}
 use mathlib.Core.Path.{refl}
-use mathlib.Core.List.{[], _∷_}
-use lib.ListN.{getD}
 use Rattle.calendar.specs.declared.DateAnswer.{DateAnswer}
 use Rattle.capi.specs.Packed.{asDays}
 use Rattle.calendar.specs.DateAnswers.{saidDate}
@@ -41,10 +39,10 @@ refused-requires : tie.Need-refused-requires
 refused-requires c κs = search needs
 
 returns : tie.Need-returns
-returns c = packed-as (asDays (getD (c .before .before .before .before .before .args .read .days) 0 0 ∷ getD (c .before .before .before .before .before .args .read .days) 1 0 ∷ getD (c .before .before .before .before .before .args .read .days) 2 0 ∷ [])) saidDate (c .before .before .answer .given .1) (c .pack .ensures)
+returns c = packed-as (asDays (c .before .before .before .before .before .args .read .days)) saidDate (c .before .before .answer .given .1) (c .pack .ensures)
 
 returns-2 : tie.Need-returns-2
-returns-2 c = packed-refused (asDays (getD (c .before .before .before .before .before .args .read .days) 0 0 ∷ getD (c .before .before .before .before .before .args .read .days) 1 0 ∷ getD (c .before .before .before .before .before .args .read .days) 2 0 ∷ [])) saidDate DateAnswer.Refused (λ r. refl) _ (c .before .before .answer2 .given .1) (c .refused .ensures)
+returns-2 c = packed-refused (asDays (c .before .before .before .before .before .args .read .days)) saidDate DateAnswer.Refused (λ r. refl) _ (c .before .before .answer2 .given .1) (c .refused .ensures)
 
 pub date-spec : {M : Type 1} → statement M
 date-spec =
