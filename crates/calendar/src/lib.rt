@@ -1,4 +1,6 @@
 // A date text and the days it can mean (01, "Dates and sheets").
+#![tactic(auto)]
+
 mod found;
 mod gregorian;
 mod layout;

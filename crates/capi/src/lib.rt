@@ -1,4 +1,6 @@
 // The library's names for C and for other languages (include/frajqotta.h): each function answers with one number.
+#![tactic(auto)]
+
 mod answers;
 mod number;
 

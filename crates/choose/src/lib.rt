@@ -1,4 +1,6 @@
 // Choosing: the first full reading that keeps the fixed readings.
+#![tactic(auto)]
+
 mod checks;
 mod fixed;
 mod walk;

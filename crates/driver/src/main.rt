@@ -1,4 +1,6 @@
 // Runs the vectors of data/ through the entry points and prints, for each that asks something, the line and what it gives.
+#![tactic(auto)]
+
 mod dates;
 mod lines;
 mod making;

@@ -1,4 +1,6 @@
 // What is asked of a table: how many readings a field keeps, the first broken row, a cell to show.
+#![tactic(auto)]
+
 pub mod judging;
 pub mod keeping;
 pub mod showing;

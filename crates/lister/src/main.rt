@@ -1,4 +1,6 @@
 // The sheet lister: reads a sheet on standard input and prints its text.
+#![tactic(auto)]
+
 ghost use Rattle.std.specs.Prelude.{length};
 ghost use Rattle.lister.specs.Input.{Came};
 

@@ -1,4 +1,6 @@
 // The text of the sheet lister.
+#![tactic(auto)]
+
 mod fields;
 mod first;
 mod listed;

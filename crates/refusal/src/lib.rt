@@ -1,4 +1,6 @@
 // The paper's numbers: one enum for every refusal, the number and the place of each (01, "Numbers given back").
+#![tactic(auto)]
+
 ghost use Rattle.std.specs.Prelude.{[], ◌∷◌};
 ghost use Rattle.refusal.specs.Refusals.{number, place};
 ghost use Rattle.refusal.specs.Print.{Prints};

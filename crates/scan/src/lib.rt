@@ -1,4 +1,6 @@
 // Sheets scanned: one record after the other judged, nothing written.
+#![tactic(auto)]
+
 pub mod field;
 pub mod mark;
 pub mod number;

@@ -56,22 +56,22 @@ module _ (x₀ y₀ : List ℕ) where
 
   pub exchanged_more : (x y : List ℕ) (p : ℕ) → Exchanged x₀ y₀ x y p → p < length x → Exchanged x₀ y₀ (set x p (get_or y p 0)) (set y p (get_or x p 0)) (p + 1)
   exchanged_more x y p g h = record {
-    upto = omega (arith, g.long-x);
+    upto = omega (arith, g.long_x);
     long = g.long;
-    long_x = simp length-set g.long-x;
-    long_y = simp length-set g.long-y;
+    long_x = simp length-set g.long_x;
+    long_y = simp length-set g.long_y;
     low_x = below_more (λ q. get_or (set x p (get_or y p 0)) q 0 ≡ get_or y₀ q 0) p
         (λ q l. get_or-set_other x p q (get_or y p 0) 0 (omega arith) ∙ g.low_x q l)
-        (get_or-set_same x p (get_or y p 0) 0 h ∙ g.high-y p (omega arith));
+        (get_or-set_same x p (get_or y p 0) 0 h ∙ g.high_y p (omega arith));
     low_y = below_more (λ q. get_or (set y p (get_or x p 0)) q 0 ≡ get_or x₀ q 0) p
-        (λ q l. get_or-set_other y p q (get_or x p 0) 0 (omega arith) ∙ g.low-y q l)
-        (get_or-set_same y p (get_or x p 0) 0 (omega (arith, g.long-x, g.long-y, g.long)) ∙ g.high-x p (omega arith));
-    high_x = λ q l. get_or-set_other x p q (get_or y p 0) 0 (omega arith) ∙ g.high-x q (omega arith);
-    high_y = λ q l. get_or-set_other y p q (get_or x p 0) 0 (omega arith) ∙ g.high-y q (omega arith);
+        (λ q l. get_or-set_other y p q (get_or x p 0) 0 (omega arith) ∙ g.low_y q l)
+        (get_or-set_same y p (get_or x p 0) 0 (omega (arith, g.long_x, g.long_y, g.long)) ∙ g.high_x p (omega arith));
+    high_x = λ q l. get_or-set_other x p q (get_or y p 0) 0 (omega arith) ∙ g.high_x q (omega arith);
+    high_y = λ q l. get_or-set_other y p q (get_or x p 0) 0 (omega arith) ∙ g.high_y q (omega arith);
   }
 
   pub exchanged_all : (x y : List ℕ) (p : ℕ) → Exchanged x₀ y₀ x y p → length x ≤ p → Swapped x₀ y₀ x y
   exchanged_all x y p g h = record {
-    here = ext_get_or 0 x y₀ (g.long-x ∙ sym g.long) (λ q l. g.low_x q (omega arith));
-    there = ext_get_or 0 y x₀ (g.long-y ∙ g.long) (λ q l. g.low-y q (omega (arith, g.long-x, g.long-y, g.long)));
+    here = ext_get_or 0 x y₀ (g.long_x ∙ sym g.long) (λ q l. g.low_x q (omega arith));
+    there = ext_get_or 0 y x₀ (g.long_y ∙ g.long) (λ q l. g.low_y q (omega (arith, g.long_x, g.long_y, g.long)));
   }

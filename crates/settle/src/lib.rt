@@ -1,4 +1,6 @@
 // Settling: rounds until nothing changes, and the first row that a round would change.
+#![tactic(auto)]
+
 ghost use Rattle.std.specs.Prelude.{◌≡◌, not, ◌<◌};
 ghost use Rattle.theory.specs.Reading.{holds};
 ghost use Rattle.table.specs.Layout.{Sized, rel};

@@ -1,4 +1,6 @@
 // Sheets opened: a sheet read into sizes, days and a table.
+#![tactic(auto)]
+
 mod fields;
 mod gap;
 mod open;

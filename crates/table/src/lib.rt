@@ -1,4 +1,6 @@
 // Tables of allowed pairs: how a cell is found, the checks of its shape, a pair struck.
+#![tactic(auto)]
+
 pub mod layout;
 pub mod shaping;
 pub mod striking;

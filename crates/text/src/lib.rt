@@ -1,4 +1,6 @@
 // Numbers, words and lines of a printed text.
+#![tactic(auto)]
+
 pub mod lines;
 mod refused;
 pub mod write;

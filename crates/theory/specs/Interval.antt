@@ -18,7 +18,7 @@ None k on = (e : ℕ) → e < k → T (on e) → ⊥
 -- of the numbers below k that are on, m has the greatest f
 record Greatest (k : ℕ) (on : ℕ → Bool) (f : ℕ → ℕ) (m : ℕ) : Type 0 where
   below : m < k
-  is-on : T (on m)
+  is_on : T (on m)
   most : (e : ℕ) → e < k → T (on e) → f e ≤ f m
 
 greatest : (k : ℕ) (on : ℕ → Bool) (f : ℕ → ℕ) → None k on ⊎ ((m : ℕ) × Greatest k on f m)
@@ -26,16 +26,16 @@ greatest zero on f = inl (λ e h t. omega arith)
 greatest (suc k) on f = step (known (on k)) (greatest k on f)
   where
     over : (m : ℕ) → m < suc k → T (on m) → (T (on k) → f k ≤ f m) → ((e : ℕ) → e < k → T (on e) → f e ≤ f m) → None (suc k) on ⊎ ((m : ℕ) × Greatest (suc k) on f m)
-    over m h t here below = inr (m, record { below = h; is-on = t; most = upto (λ e. T (on e) → f e ≤ f m) here below })
+    over m h t here below = inr (m, record { below = h; is_on = t; most = upto (λ e. T (on e) → f e ≤ f m) here below })
 
     step : T (on k) ⊎ T (not (on k)) → None k on ⊎ ((m : ℕ) × Greatest k on f m) → None (suc k) on ⊎ ((m : ℕ) × Greatest (suc k) on f m)
     step (inl t) (inl z) = over k (omega arith) t (λ s. le_refl (f k)) (λ e h s. absurd (z e h s))
     step (inl t) (inr g) = elim (lt_or_ge (f g.0) (f k)) [
       | inl l ↦ over k (omega arith) t (λ s. le_refl (f k)) (λ e h s. omega (arith, g.1.most e h s))
-      | inr l ↦ over g.0 (omega (arith, g.1.below)) g.1.is-on (λ s. l) g.1.most
+      | inr l ↦ over g.0 (omega (arith, g.1.below)) g.1.is_on (λ s. l) g.1.most
     ]
     step (inr d) (inl z) = inl (upto (λ e. T (on e) → ⊥) (not_e (on k) d) z)
-    step (inr d) (inr g) = over g.0 (omega (arith, g.1.below)) g.1.is-on (λ s. absurd (not_e (on k) d s)) g.1.most
+    step (inr d) (inr g) = over g.0 (omega (arith, g.1.below)) g.1.is_on (λ s. absurd (not_e (on k) d s)) g.1.most
 
 -- The rows p e, for the e below k that are on, are whole over what stands and lie inside it, and each two have a reading below d in
 -- common: then all have one in common. It is the greatest of the rows' least readings. (m is one that is on.)
@@ -64,10 +64,10 @@ interval_lemma k d on stand p whole inside meet m h t = pick (greatest k on low)
     pick (inr g) = (
       low g.0,
       λ e he te.
-          let c = meet e g.0 he g.1.below te g.1.is-on in
+          let c = meet e g.0 he g.1.below te g.1.is_on in
           let mine = first_found d (p e) c.0 c.1 c.2 in
           let its = first_found d (p g.0) c.0 c.1 c.3 in
-          between e g.0 c.0 he te mine.1 c.2 (g.1.most e he te) its.0 (inside g.0 (low g.0) g.1.below g.1.is-on its.1),
+          between e g.0 c.0 he te mine.1 c.2 (g.1.most e he te) its.0 (inside g.0 (low g.0) g.1.below g.1.is_on its.1),
     )
 
 -- Readings v of the fields that are on, each two allowed, with whole rows to f, leave f a kept reading that goes with all of them.

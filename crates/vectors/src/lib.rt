@@ -1,4 +1,6 @@
 // What the programs that run vectors share: files and lines of them, the questions, and answers as numbers.
+#![tactic(auto)]
+
 pub mod asking;
 pub mod bytes;
 pub mod file;

@@ -61,7 +61,7 @@ span_pack w p h =
 pub span_none : 0 ≡ pack 32 (spanned 0)
 span_none =
     pack_of 32 0 (spanned 0) (pow_pos 32) (λ b l.
-    T_ext (bit 0 b) (spanned 0 b) (λ t. absurd (zero_no b t)) (λ t. let g = spanned_e 0 b t in absurd (zero_no g.lower g.lower-one)))
+    T_ext (bit 0 b) (spanned 0 b) (λ t. absurd (zero_no b t)) (λ t. let g = spanned_e 0 b t in absurd (zero_no g.lower g.lower_one)))
 
 -- a row is whole where no bit that stands in its span is missing
 
@@ -88,11 +88,11 @@ module _ (w s : ℕ) (h : w < 2 ^ 32) where
       let u = and_r (spanned w b) (bit s b && not (bit w b)) t in
       not_e (bit w b) (and_r (bit s b) (not (bit w b)) u)
       (elim (eq-or-lt_of_le g.from) [
-        | inl e ↦ subst (λ (x : ℕ). T (bit w x)) e g.lower-one
+        | inl e ↦ subst (λ (x : ℕ). T (bit w x)) e g.lower_one
         | inr l ↦
             elim (eq-or-lt_of_le g.upto) [
-              | inl e ↦ subst⁻¹ (λ (x : ℕ). T (bit w x)) e g.upper-one
-              | inr m ↦ f g.lower b g.upper l m g.lower-one g.upper-one (and_l (bit s b) (not (bit w b)) u)
+              | inl e ↦ subst⁻¹ (λ (x : ℕ). T (bit w x)) e g.upper_one
+              | inr m ↦ f g.lower b g.upper l m g.lower_one g.upper_one (and_l (bit s b) (not (bit w b)) u)
             ]
       ])
 

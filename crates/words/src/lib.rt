@@ -1,4 +1,6 @@
 // One row of 32 bits: tested, changed, narrowed, spanned and counted.
+#![tactic(auto)]
+
 mod turn;
 
 ghost use Rattle.std.specs.Prelude.{◌≡◌, ◌&&◌, ◌||◌, not, ◌<◌, eqb, ltb, length, get_or};

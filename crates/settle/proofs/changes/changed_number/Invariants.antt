@@ -1,0 +1,15 @@
+-- `changed_number` meets its contract: no row of the cells passed would change.
+use borrow.Author.Rules.{rules}
+use Prim.Native.Nat.{◌-◌}
+use native.Mathlib.Omega.{arith}
+use lib.ListN.{length}
+use Rattle.table.specs.Layout.{rel}
+use Rattle.table.proofs.Rows.{Cells, cells_none, cells_more, cells_found, cells_all}
+use Rattle.settle.specs.Changes.{changed_above}
+use Rattle.settle.proofs.changes.changed_number.Given as goal
+
+abbrev pub invariant-loop-p : goal.invariant-loop-p
+invariant-loop-p l = Cells l.n (changed_above l.n (rel l.n l.table)) l.p
+
+abbrev pub decreases-loop-p : goal.decreases-loop-p
+decreases-loop-p l = length l.table - l.p

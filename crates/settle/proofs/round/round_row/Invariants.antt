@@ -1,0 +1,14 @@
+-- `round_row` meets its contract: w has the bits that lie in every composition so far.
+use borrow.Author.Rules.{rules}
+use Prim.Native.Nat.{◌-◌}
+use lib.Dec.{eqb}
+use borrow.Author.Tests.{eqb-true, not-false}
+use native.Mathlib.Omega.{arith}
+use Rattle.settle.proofs.Narrowing.{Kept, kept-start, kept_more, kept_end, kept_none}
+use Rattle.settle.proofs.round.round_row.Given as goal
+
+abbrev pub invariant-loop-k : goal.invariant-loop-k
+invariant-loop-k l = Kept l.n l.t l.i l.j l.a l.k l.w
+
+abbrev pub decreases-loop-k : goal.decreases-loop-k
+decreases-loop-k l = l.n - l.k

@@ -1,0 +1,7 @@
+-- `clear` meets its contract: one word is written, without the bit.
+use borrow.Author.Rules.{rules}
+use Rattle.table.proofs.Parts.{cleared_is}
+use Rattle.table.proofs.striking.clear.Goals as goal
+
+pub returns : goal.returns
+returns c = cleared_is _ _ _ c.without_bit.ensures
