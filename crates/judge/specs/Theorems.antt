@@ -81,8 +81,8 @@ module _ (n : ℕ) (size : ℕ → ℕ) (R : Rel) where
         whole_e (stands size R (search_row n q).j) (R (search_row n q).i (search_row n q).j (search_row n q).a) (λ b s. (pair_small w (search_row n q).i (search_row n q).j (search_row n q).a b r.first r.second s).1)
         (not-not (whole (stands size R (search_row n q).j) (R (search_row n q).i (search_row n q).j (search_row n q).a)) (not_i (not (whole (stands size R (search_row n q).j) (R (search_row n q).i (search_row n q).j (search_row n q).a))) f))
 
-    all_whole : ((q : ℕ) → q < search_rows n → T (Broken q) → ⊥) → WholeRows n size R
-    all_whole f = whole_rows_e w (λ i j a hi hj ha.
+    all_whole_lem : ((q : ℕ) → q < search_rows n → T (Broken q) → ⊥) → WholeRows n size R
+    all_whole_lem f = whole_rows_e w (λ i j a hi hj ha.
         let e = search_is_table n (row_number n i j a) ∙ row_of_number n i j a hj ha in
         whole_i _ _ (subst (λ (r : Row). Whole (stands size R r.j) (R r.i r.j r.a)) e (unfold Here in whole-at (row_number n i j a) (number_in n i j a hi hj ha) (f (row_number n i j a) (number_in n i j a hi hj ha)))))
 
@@ -103,7 +103,7 @@ module _ (n : ℕ) (size : ℕ → ℕ) (R : Rel) where
           record { place = p; within = l; is = refl; inside = row_inside p l; broken = broken-e p (first_holds (search_rows n) Broken l); before = λ q h. whole-at q (omega (arith, h, l)) (first_least (search_rows n) Broken q h) },
           ap (λ (b : Bool). cond b (says 0 (row_place (search_row n p))) (says 0 [])) (lt-ltb p (search_rows n) l),
         )
-        go (inr h) = inl (all_whole ((first_none (search_rows n) Broken).0 (omega (arith, h, first-le (search_rows n) Broken))), ap (λ (b : Bool). cond b (says 0 (row_place (search_row n p))) (says 0 [])) (le-ltb p (search_rows n) h))
+        go (inr h) = inl (all_whole_lem ((first_none (search_rows n) Broken).0 (omega (arith, h, first-le (search_rows n) Broken))), ap (λ (b : Bool). cond b (says 0 (row_place (search_row n p))) (says 0 [])) (le-ltb p (search_rows n) h))
 
 -- the answer on a good table: nothing where the rows are whole, and else the first broken row
 pub rows_are_judged : (sizes t : List ℕ) → GoodTable sizes t → Judged (length sizes) (size_of sizes) (rel (length sizes) t) (rows_says sizes t)

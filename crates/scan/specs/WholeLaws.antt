@@ -196,8 +196,8 @@ module _ (sep : ℕ → Bool) (s : List ℕ) where
   pub data FieldNext (rs : List Record) (at : ℕ) (all : List Record) : Type 0 where
     field_next : (d : List ℕ) (n : ℕ) → step_at sep (told rs) s at ≡ more (field d) n → scan_on sep s (rs ++ field d ∷ []) n ≡ whole all → FieldNext rs at all
 
-  pub field_next : (rs : List Record) (at : ℕ) (all : List Record) → scan_on sep s rs at ≡ whole all → length (fields_of rs) < length (fields_of all) → FieldNext rs at all
-  field_next rs at all w h = go (going sep s rs at all w)
+  pub field_next_lem : (rs : List Record) (at : ℕ) (all : List Record) → scan_on sep s rs at ≡ whole all → length (fields_of rs) < length (fields_of all) → FieldNext rs at all
+  field_next_lem rs at all w h = go (going sep s rs at all w)
     where
       not-pair : (r : Record) (n : ℕ) → is_pair r ≡ true → scan_on sep s (rs ++ r ∷ []) n ≡ whole all → ⊥
       not-pair r n p v = let e : length (fields_of all) ≡ length (fields_of rs) = ap length (late_fixed (rs ++ r ∷ []) n all v (late_pair rs r p) ∙ fields_pair rs r p) in omega arith

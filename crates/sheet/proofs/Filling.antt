@@ -15,7 +15,7 @@ use Rattle.calendar.specs.DateAnswers.{padded}
 use Rattle.scan.specs.Sheet.{Record, field, fields_of, any_pair, Told, told, Step, more, number_at, date_at, days_at as listAt, mark_of, by_mark, step_at, whole, scan}
 use Rattle.scan.specs.RecordLaws.{fields_field, late_field}
 use Rattle.scan.specs.SheetLaws.{adds_more, gap_stands, strike-stands, end_no_more, step_more, scan_on, scan_on_lem}
-use Rattle.scan.specs.WholeLaws.{GoodFields, whole-good, FieldNext, field_next, field_next}
+use Rattle.scan.specs.WholeLaws.{GoodFields, whole-good, FieldNext, field_next, field_next_lem}
 use Rattle.scan.specs.Judging.{adds, gist, gist_of, field_by, ReadsField}
 use Rattle.scan.specs.declared.mark.Mark.{Mark}
 use Rattle.scan.specs.declared.mark.Mark.TheVariants.{Date, Short, Days, Gap, Strike, End, Unknown}
@@ -82,7 +82,7 @@ by_mark_lem t s at d n Unknown e = absurd (let z : ◌≡◌ {A = ℕ} 0 1 = cc 
 
 module _ {sheet sizes days : List ℕ} {i at : ℕ} (f : FieldsTo sheet sizes days i at) (h : i < length sizes) where
   next : Next sheet f.before at
-  next = next_of (field_next separator sheet f.before at (records sheet) f.up_to.on (omega (arith, f.count, f.all_sizes)))
+  next = next_of (field_next_lem separator sheet f.before at (records sheet) f.up_to.on (omega (arith, f.count, f.all_sizes)))
 
   pub field_there : at + 2 ≤ length sheet
   field_there = (step_more separator (told f.before) sheet at (field next.days) next.next next.step).0
