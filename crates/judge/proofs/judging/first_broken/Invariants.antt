@@ -1,8 +1,6 @@
 -- `first_broken` meets its contract: at each level of the search no row passed is broken.
-use borrow.Author.Rules.{rules}
 use Prim.Native.Nat.{◌-◌}
-use Rattle.table.proofs.Faults.{hit, miss}
-use Rattle.judge.proofs.Gaps.{row-broken, Readings, Columns, Fields, fields_none, columns_none, readings_none, readings_more, columns_more, fields_more, broken-said, whole-said}
+use Rattle.judge.proofs.Gaps.{Readings, Columns, Fields}
 use Rattle.judge.proofs.judging.first_broken.Given as goal
 
 abbrev pub invariant-loop-a : goal.invariant-loop-a

@@ -1,5 +1,4 @@
 -- `judge` meets its contract: the search, where the shape is good.
-use borrow.Author.Rules.{rules}
 use mathlib.Core.Path.{◌∙◌}
 use Rattle.table.specs.ShapeLaws.{check_shape, good-sized}
 use Rattle.table.specs.AnswerLaws.{told-refused, told-good, told_on}
@@ -16,5 +15,4 @@ first_broken-requires c = good-sized (told-good (check_shape _ _) c.shape-shaped
 pub returns : goal.returns
 unfolding rows_says
 returns c =
-    let d = c in
-    c.first_broken.ensures ∙ told_on (check_shape _ _) d.shape-shaped.ensures d.in_default.is _
+    c.first_broken.ensures ∙ told_on (check_shape _ _) c.shape-shaped.ensures c.in_default.is _

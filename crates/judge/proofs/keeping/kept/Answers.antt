@@ -1,5 +1,4 @@
 -- `kept` meets its contract: the ones of the diagonal cell of a good table are the readings kept.
-use borrow.Author.Rules.{rules}
 use mathlib.Core.Path.{ap, ◌∙◌}
 use mathlib.Core.List.{[], ◌∷◌}
 use Prim.Native.Nat.{ℕ}
@@ -18,19 +17,16 @@ returns-in-Refused c = told-refused (check_shape _ _) c.shape-shaped.ensures _ c
 pub returns-then-field-sizes : goal.returns-then-field-sizes
 unfolding kept_says
 returns-then-field-sizes c =
-    let d = c in
-    field_no _ _ c.if-field-sizes.true _ ∙ told_on (check_shape _ _) d.shape-shaped.ensures d.in_default.is _
+    field_no _ _ c.if-field-sizes.true _ ∙ told_on (check_shape _ _) c.shape-shaped.ensures c.in_default.is _
 
 pub cell-requires : goal.cell-requires
 cell-requires c =
-    let d = c in
-    (good-sized (told-good (check_shape _ _) d.shape-shaped.ensures d.in_default.is), c.if-field-sizes.false, c.if-field-sizes.false)
+    (good-sized (told-good (check_shape _ _) c.shape-shaped.ensures c.in_default.is), c.if-field-sizes.false, c.if-field-sizes.false)
 
 pub returns : goal.returns
 unfolding kept_says
 returns c =
-    let d = c in
-    let g = told-good (check_shape _ _) d.shape-shaped.ensures d.in_default.is in
+    let g = told-good (check_shape _ _) c.shape-shaped.ensures c.in_default.is in
     let h = c.if-field-sizes.false in
-    ap (λ (k : ℕ). says 0 (k ∷ [])) (ones-kept _ _ _ g h c.cell.ensures c.ones_in_lem.ensures)
-    ∙ field_yes _ _ h _ ∙ told_on (check_shape _ _) d.shape-shaped.ensures d.in_default.is _
+    ap (λ (k : ℕ). says 0 (k ∷ [])) (ones-kept _ _ _ g h c.cell.ensures c.ones_in.ensures)
+    ∙ field_yes _ _ h _ ∙ told_on (check_shape _ _) c.shape-shaped.ensures c.in_default.is _

@@ -1,7 +1,5 @@
-use borrow.Author.Rules.{rules}
-use Prim.Native.Nat.{◌-◌}
 use native.Mathlib.Omega.{arith}
-use Rattle.judge.proofs.Counts.{Counted, counted_none, counted-small, counted_more, counted-all}
+use Rattle.judge.proofs.Counts.{counted_none, counted-small, counted_more, counted-all}
 use Rattle.judge.proofs.keeping.ones_in.Goals as goal
 
 pub loop-a-init : goal.loop-a-init

@@ -1,8 +1,6 @@
 -- `ones_in` meets its contract: the ones of every row passed are counted.
-use borrow.Author.Rules.{rules}
 use Prim.Native.Nat.{◌-◌}
-use native.Mathlib.Omega.{arith}
-use Rattle.judge.proofs.Counts.{Counted, counted_none, counted-small, counted_more, counted-all}
+use Rattle.judge.proofs.Counts.{Counted}
 use Rattle.judge.proofs.keeping.ones_in.Given as goal
 
 abbrev pub invariant-loop-a : goal.invariant-loop-a

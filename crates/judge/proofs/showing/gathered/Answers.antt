@@ -1,7 +1,4 @@
-use borrow.Author.Rules.{rules}
-use Prim.Native.Nat.{◌-◌}
-use lib.ListN.{length}
-use Rattle.judge.proofs.Zeros.{Gathered, gathered_none, gathered_more, gathered_all}
+use Rattle.judge.proofs.Zeros.{gathered_none, gathered_more, gathered_all}
 use Rattle.judge.proofs.showing.gathered.Goals as goal
 
 pub loop-a-init : goal.loop-a-init

@@ -1,8 +1,7 @@
 -- `gathered` meets its contract: the bits of every word passed are gathered.
-use borrow.Author.Rules.{rules}
 use Prim.Native.Nat.{◌-◌}
 use lib.ListN.{length}
-use Rattle.judge.proofs.Zeros.{Gathered, gathered_none, gathered_more, gathered_all}
+use Rattle.judge.proofs.Zeros.{Gathered}
 use Rattle.judge.proofs.showing.gathered.Given as goal
 
 abbrev pub invariant-loop-a : goal.invariant-loop-a

@@ -1,7 +1,4 @@
-use borrow.Author.Rules.{rules}
-use Prim.Native.Nat.{◌-◌}
-use lib.ListN.{length}
-use Rattle.judge.proofs.Zeros.{ZeroCells, cells_none, cells_more, cells_end, cells_all}
+use Rattle.judge.proofs.Zeros.{cells_none, cells_more, cells_end, cells_all}
 use Rattle.judge.proofs.showing.holds_none.Goals as goal
 
 pub loop-p-init : goal.loop-p-init

@@ -1,5 +1,4 @@
 -- `show` meets its contract: the table that `shown_from` names has the words.
-use borrow.Author.Rules.{rules}
 use mathlib.Core.Path.{refl, ◌∙◌}
 use native.Mathlib.Omega.{arith}
 use Rattle.judge.proofs.Shows.{told_show, told-opening, told-settled, told_none, shown_near}

@@ -1,5 +1,4 @@
 -- `shown_from` meets its contract: the checks one after the other, then the settled table searched for a bit.
-use borrow.Author.Rules.{rules}
 use mathlib.Core.Path.{sym, ◌∙◌}
 use mathlib.Core.Bool.{true, false}
 use native.Mathlib.Omega.{arith}
@@ -18,51 +17,40 @@ table_length-requires c = (told-good (check-sizes _) c.sized-fields.ensures c.in
 
 pub returns-then-opening-table_length : goal.returns-then-opening-table_length
 returns-then-opening-table_length c =
-    let e = c in
-    show_opening_length _ _ _ _ _ (told-good (check-sizes _) e.sized-fields.ensures e.in_default.is) (λ h. c.if-opening-table_length.true (h ∙ sym c.table_length.ensures))
+    show_opening_length _ _ _ _ _ (told-good (check-sizes _) c.sized-fields.ensures c.in_default.is) (λ h. c.if-opening-table_length.true (h ∙ sym c.table_length.ensures))
 
 pub returns-then-settled-opening : goal.returns-then-settled-opening
 returns-then-settled-opening c =
-    let e = c in
     let long = c.if-opening-table_length.false ∙ c.table_length.ensures in
-    show_settled_length _ _ _ _ _ (told-good (check-sizes _) e.sized-fields.ensures e.in_default.is) long (λ h. c.if-settled-opening.true (h ∙ sym long))
+    show_settled_length _ _ _ _ _ (told-good (check-sizes _) c.sized-fields.ensures c.in_default.is) long (λ h. c.if-settled-opening.true (h ∙ sym long))
 
 pub returns-then-i-n : goal.returns-then-i-n
 returns-then-i-n c =
-    let e = c in
     let long = c.if-opening-table_length.false ∙ c.table_length.ensures in
-    show_no_first _ _ _ _ _ (told-good (check-sizes _) e.sized-fields.ensures e.in_default.is) long (c.if-settled-opening.false ∙ long) c.if-i-n.true
+    show_no_first _ _ _ _ _ (told-good (check-sizes _) c.sized-fields.ensures c.in_default.is) long (c.if-settled-opening.false ∙ long) c.if-i-n.true
 
 pub returns-then-j-n : goal.returns-then-j-n
 returns-then-j-n c =
-    let d = c in
-    let e = d in
-    let long = d.if-opening-table_length.false ∙ d.table_length.ensures in
-    show_no_second _ _ _ _ _ (told-good (check-sizes _) e.sized-fields.ensures e.in_default.is) long (d.if-settled-opening.false ∙ long) c.if-i-n.false c.if-j-n.true
+    let long = c.if-opening-table_length.false ∙ c.table_length.ensures in
+    show_no_second _ _ _ _ _ (told-good (check-sizes _) c.sized-fields.ensures c.in_default.is) long (c.if-settled-opening.false ∙ long) c.if-i-n.false c.if-j-n.true
 
 pub cell_start-at-requires : goal.cell_start-at-requires
 cell_start-at-requires c =
-    let e = c in
-    ((told-good (check-sizes _) e.sized-fields.ensures e.in_default.is).few, c.if-i-n.false, c.if-j-n.false)
+    ((told-good (check-sizes _) c.sized-fields.ensures c.in_default.is).few, c.if-i-n.false, c.if-j-n.false)
 
 pub holds_none-requires : goal.holds_none-requires
 holds_none-requires c =
-    let d = c in
-    let long = d.if-opening-table_length.false ∙ d.table_length.ensures in
-    omega (arith, d.if-settled-opening.false ∙ long)
+    let long = c.if-opening-table_length.false ∙ c.table_length.ensures in
+    omega (arith, c.if-settled-opening.false ∙ long)
 
 pub returns-then-holds_none : goal.returns-then-holds_none
 returns-then-holds_none c =
-    let d = c in
-    let e = d in
-    let long = d.if-opening-table_length.false ∙ d.table_length.ensures in
-    show_from _ _ _ _ _ (told-good (check-sizes _) e.sized-fields.ensures e.in_default.is) long (d.if-settled-opening.false ∙ long) _ true
-    (λ p. (e.shared_slice_known-3-1.given p).fits) d.if-i-n.false d.if-j-n.false c.cell_start-at.ensures.start c.holds_none.ensures c.if-holds_none.true
+    let long = c.if-opening-table_length.false ∙ c.table_length.ensures in
+    show_from _ _ _ _ _ (told-good (check-sizes _) c.sized-fields.ensures c.in_default.is) long (c.if-settled-opening.false ∙ long) _ true
+    (λ p. (c.type_inv.settled p).fits) c.if-i-n.false c.if-j-n.false c.cell_start-at.ensures.start c.holds_none.ensures c.if-holds_none.true
 
 pub returns : goal.returns
 returns c =
-    let d = c in
-    let e = d in
-    let long = d.if-opening-table_length.false ∙ d.table_length.ensures in
-    show_from _ _ _ _ _ (told-good (check-sizes _) e.sized-fields.ensures e.in_default.is) long (d.if-settled-opening.false ∙ long) _ false
-    (λ p. (e.shared_slice_known-3-1.given p).fits) d.if-i-n.false d.if-j-n.false c.cell_start-at.ensures.start c.holds_none.ensures c.if-holds_none.false
+    let long = c.if-opening-table_length.false ∙ c.table_length.ensures in
+    show_from _ _ _ _ _ (told-good (check-sizes _) c.sized-fields.ensures c.in_default.is) long (c.if-settled-opening.false ∙ long) _ false
+    (λ p. (c.type_inv.settled p).fits) c.if-i-n.false c.if-j-n.false c.cell_start-at.ensures.start c.holds_none.ensures c.if-holds_none.false
