@@ -153,10 +153,10 @@ module _ (sizes opening settled : List ℕ) (i j : ℕ) where
       ⊎ ((shown_words sizes opening settled i j ≡ []) × (1 ≤ (show_says sizes opening settled i j).state))
   unfolding shown_words show_says Words
   seen (inl g) =
-      let z = ap (λ (s : Said). s.state) ((check_show sizes opening settled i j).passes g (says 0 (val (from_opening (length sizes) settled) ∷ cell_start (length sizes) i j ∷ []))) in
+      let z : (show_says sizes opening settled i j).state ≡ 0 = ap (λ (s : Said). s.state) ((check_show sizes opening settled i j).passes g _) in
       inl (ap (λ (b : Bool). cond b Words []) (eq-eqb (show_says sizes opening settled i j).state 0 z), long g (from_opening (length sizes) settled), z)
   seen (inr r) =
-      let e = ap (λ (s : Said). s.state) (r.2 (says 0 (val (from_opening (length sizes) settled) ∷ cell_start (length sizes) i j ∷ []))) in
+      let e : (show_says sizes opening settled i j).state ≡ r.0.state = ap (λ (s : Said). s.state) (r.2 _) in
       inr (ap (λ (b : Bool). cond b Words []) (ne_eqb (show_says sizes opening settled i j).state 0 (λ z. omega (arith, e, z, r.1))), omega (arith, e, r.1))
 
   pub a_cell_is_shown : (show_says sizes opening settled i j).state ≡ 0
