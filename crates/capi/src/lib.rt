@@ -1,4 +1,5 @@
-// The library's names for C and for other languages (include/frajqotta.h): each function answers with one number.
+// What C and other languages are answered (include/frajqotta.h): each function answers with one number. The crate capi_c
+// exports them.
 #![tactic(auto)]
 
 mod answers;
@@ -13,16 +14,14 @@ ghost use Rattle.capi.specs.Packed.{packed_said, as_values, as_days, as_rows, as
 ghost use Rattle.capi.specs.Promises.{PacksReading, PacksSettling, PacksChoice};
 
 // The days that a date text can mean.
-#[unsafe(no_mangle)]
-pub extern "C" fn fq_date(text: &[u8]) -> u64
+pub fn fq_date(text: &[u8]) -> u64
     ensures { result ≡ packed_said (as_days (means separator text.now)) (date_says separator text.now) }
 {
     answers::date(calendar::read_date(text))
 }
 
 // A sheet read into sizes, days and the opening table.
-#[unsafe(no_mangle)]
-pub extern "C" fn fq_read(
+pub fn fq_read(
     sheet: &[u8],
     sizes: &mut [u8],
     days: &mut [u16],
@@ -34,8 +33,7 @@ pub extern "C" fn fq_read(
 }
 
 // Settles the table within a budget of rounds.
-#[unsafe(no_mangle)]
-pub extern "C" fn fq_settle(
+pub fn fq_settle(
     sizes: &[u8],
     table: &mut [u32],
     scratch: &mut [u32],
@@ -47,32 +45,28 @@ pub extern "C" fn fq_settle(
 }
 
 // Whole rows, or the first broken one.
-#[unsafe(no_mangle)]
-pub extern "C" fn fq_judge(sizes: &[u8], table: &[u32]) -> u64
+pub fn fq_judge(sizes: &[u8], table: &[u32]) -> u64
     ensures { result ≡ packed_said as_rows (rows_says sizes.now table.now) }
 {
     answers::rows(judge::judge(sizes, table))
 }
 
 // The number of readings that a field keeps.
-#[unsafe(no_mangle)]
-pub extern "C" fn fq_kept(sizes: &[u8], table: &[u32], field: usize) -> u64
+pub fn fq_kept(sizes: &[u8], table: &[u32], field: usize) -> u64
     ensures { result ≡ packed_said as_values (kept_says sizes.now table.now field) }
 {
     answers::kept(judge::kept(sizes, table, field))
 }
 
 // The first full reading that keeps the fixed readings, into answer.
-#[unsafe(no_mangle)]
-pub extern "C" fn fq_choose(sizes: &[u8], table: &[u32], fixed: &[u8], answer: &mut [u8]) -> u64
+pub fn fq_choose(sizes: &[u8], table: &[u32], fixed: &[u8], answer: &mut [u8]) -> u64
     ensures { PacksChoice sizes.now table.now fixed.now answer.old result answer.new }
 {
     answers::choice(choose::choose(sizes, table, fixed, answer))
 }
 
 // The table that a cell is shown from, and where it starts there.
-#[unsafe(no_mangle)]
-pub extern "C" fn fq_show(sizes: &[u8], opening: &[u32], settled: &[u32], i: usize, j: usize) -> u64
+pub fn fq_show(sizes: &[u8], opening: &[u32], settled: &[u32], i: usize, j: usize) -> u64
     ensures { result ≡ packed_said as_shown (show_says sizes.now opening.now settled.now i j) }
 {
     answers::shown(judge::shown_from(sizes, opening, settled, i, j))

@@ -1,0 +1,76 @@
+// The exports for C and for other languages (include/frajqotta.h): each is the function of that name of the crate capi.
+#![tactic(auto)]
+
+ghost use Rattle.std.specs.Prelude.{◌≡◌};
+ghost use Rattle.calendar.specs.DateText.{separator, means};
+ghost use Rattle.calendar.specs.DateAnswers.{date_says};
+ghost use Rattle.judge.specs.Asked.{rows_says, kept_says, show_says};
+ghost use Rattle.sheet.specs.Opening.{reading};
+ghost use Rattle.capi.specs.Packed.{packed_said, as_values, as_days, as_rows, as_shown};
+ghost use Rattle.capi.specs.Promises.{PacksReading, PacksSettling, PacksChoice};
+
+// The days that a date text can mean.
+#[unsafe(no_mangle)]
+pub extern "C" fn fq_date(text: &[u8]) -> u64
+    ensures { result ≡ packed_said (as_days (means separator text.now)) (date_says separator text.now) }
+{
+    capi::fq_date(text)
+}
+
+// A sheet read into sizes, days and the opening table.
+#[unsafe(no_mangle)]
+pub extern "C" fn fq_read(
+    sheet: &[u8],
+    sizes: &mut [u8],
+    days: &mut [u16],
+    table: &mut [u32],
+) -> u64
+    ensures { PacksReading (reading separator sheet.now sizes.old days.old table.old) result sizes.new days.new table.new }
+{
+    capi::fq_read(sheet, sizes, days, table)
+}
+
+// Settles the table within a budget of rounds.
+#[unsafe(no_mangle)]
+pub extern "C" fn fq_settle(
+    sizes: &[u8],
+    table: &mut [u32],
+    scratch: &mut [u32],
+    budget: u64,
+) -> u64
+    ensures { PacksSettling sizes.now table.old scratch.old budget result table.new scratch.new }
+{
+    capi::fq_settle(sizes, table, scratch, budget)
+}
+
+// Whole rows, or the first broken one.
+#[unsafe(no_mangle)]
+pub extern "C" fn fq_judge(sizes: &[u8], table: &[u32]) -> u64
+    ensures { result ≡ packed_said as_rows (rows_says sizes.now table.now) }
+{
+    capi::fq_judge(sizes, table)
+}
+
+// The number of readings that a field keeps.
+#[unsafe(no_mangle)]
+pub extern "C" fn fq_kept(sizes: &[u8], table: &[u32], field: usize) -> u64
+    ensures { result ≡ packed_said as_values (kept_says sizes.now table.now field) }
+{
+    capi::fq_kept(sizes, table, field)
+}
+
+// The first full reading that keeps the fixed readings, into answer.
+#[unsafe(no_mangle)]
+pub extern "C" fn fq_choose(sizes: &[u8], table: &[u32], fixed: &[u8], answer: &mut [u8]) -> u64
+    ensures { PacksChoice sizes.now table.now fixed.now answer.old result answer.new }
+{
+    capi::fq_choose(sizes, table, fixed, answer)
+}
+
+// The table that a cell is shown from, and where it starts there.
+#[unsafe(no_mangle)]
+pub extern "C" fn fq_show(sizes: &[u8], opening: &[u32], settled: &[u32], i: usize, j: usize) -> u64
+    ensures { result ≡ packed_said as_shown (show_says sizes.now opening.now settled.now i j) }
+{
+    capi::fq_show(sizes, opening, settled, i, j)
+}
