@@ -8,7 +8,8 @@ use Rattle.std.proofs.Math.Seq.{take-append_seam}
 use Rattle.refusal.specs.declared.Refusal.{Refusal}
 use Rattle.refusal.specs.declared.Refusal.TheVariants.{Shapeless, Unreal}
 use Rattle.refusal.specs.Said.{Said, says, refused}
-use Rattle.refusal.specs.RefusalLaws.{refused_determines, numbered}
+use Rattle.refusal.specs.RefusalLaws.{numbered}
+use Rattle.refusal.proofs.Determined.{refused_determines}
 use Rattle.calendar.specs.declared.DateAnswer.{DateAnswer}
 use Rattle.calendar.specs.declared.DateAnswer.TheVariants.{Days, Refused}
 use Rattle.calendar.specs.declared.DateRead.{DateRead}

@@ -11,9 +11,9 @@ use Rattle.theory.specs.BoundLaws.{lt_or_ge, and_r, val_most, count_most}
 use Rattle.theory.specs.Relation.{Rel, rounds}
 use Rattle.theory.specs.Reading.{kept, kept_count, empty}
 use Rattle.theory.specs.Settling.{steps}
-use Rattle.theory.specs.Theorems.{steps_at_most_rounds_most}
+use Rattle.theory.proofs.Theorems.{steps_at_most_rounds_most}
 use Rattle.theory.specs.Choice.{clash_from, clash_to}
-use Rattle.theory.specs.ChoiceLaws.{clash-found}
+use Rattle.theory.proofs.ChoiceLaws.{clash-found}
 use Rattle.refusal.specs.Said.{Said, says}
 use Rattle.table.specs.declared.layout.Row.{Row}
 use Rattle.table.specs.Layout.{table_length, table_rows, table_row, search_rows, search_row, at, RowIn, cell_start, rel, size_of}

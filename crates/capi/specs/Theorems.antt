@@ -8,7 +8,7 @@ use Rattle.std.proofs.Math.Dec.{eqb}
 use Rattle.std.proofs.Math.ListN.{length, get_or, take}
 use Rattle.theory.specs.Limits.{readings_most}
 use Rattle.theory.specs.Bound.{val}
-use Rattle.theory.specs.Theorems.{first_is_one}
+use Rattle.theory.proofs.Theorems.{first_is_one}
 use Rattle.refusal.specs.Said.{Said, says}
 use Rattle.table.specs.CheckLaws.{passed, answered}
 use Rattle.table.specs.Layout.{cell_start, cell_of}

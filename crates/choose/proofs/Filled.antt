@@ -10,7 +10,7 @@ use Rattle.theory.specs.Limits.{readings_most}
 use Rattle.theory.specs.BoundLaws.{T_ext, known, any_i, any_e}
 use Rattle.theory.specs.Relation.{Rel, Settled}
 use Rattle.theory.specs.Reading.{empty}
-use Rattle.theory.specs.ReadingLaws.{holds_i, holds_e, filled_i, settled-filled}
+use Rattle.theory.proofs.ReadingLaws.{holds_i, holds_e, filled_i, settled-filled}
 use Rattle.words.specs.Word.{bit, pack}
 use Rattle.words.specs.WordLaws.{bit-pack, pack-lt, some_one, zero_no}
 use Rattle.refusal.specs.Said.{Said, says}

@@ -13,10 +13,10 @@ use lib.Seq.{get_or-set_same, get_or-set_other}
 use Rattle.theory.specs.Limits.{readings_most}
 use Rattle.theory.specs.Bound.{first}
 use Rattle.theory.specs.BoundLaws.{and_i, and_l, and_r, or_by, or_use, T_ext, lt_or_ge, upto, all_i, all_e, any_i, any_e, first_found, first-le, first_is, first_least, first_same}
-use Rattle.theory.specs.RelationLaws.{pair_kept, pair_small}
+use Rattle.theory.proofs.RelationLaws.{pair_kept, pair_small}
 use Rattle.theory.specs.Choice.{by_number, free, Fixed, left, Walked}
-use Rattle.theory.specs.ChoiceLaws.{Left, left_e, left_i, left_same}
-use Rattle.theory.specs.Theorems.{walk_finds_a_reading, walk_ends_first}
+use Rattle.theory.proofs.ChoiceLaws.{Left, left_e, left_i, left_same}
+use Rattle.theory.proofs.Theorems.{walk_finds_a_reading, walk_ends_first}
 use Rattle.words.specs.Word.{bit, pack}
 use Rattle.words.specs.WordLaws.{bit-pack}
 use Rattle.table.specs.Layout.{Sized, size_of}

@@ -4,12 +4,12 @@ use Rattle.std.proofs.Common.{sym, ◌∙◌, subst, inl, inr, le_refl, le_antis
 use Rattle.std.proofs.Math.Dec.{eqb_refl}
 use Rattle.theory.specs.BoundLaws.{and_i, and_l, and_r, or_by, or_use, not_e, known, lt_or_ge}
 use Rattle.theory.specs.Relation.{Rel, WellFormed, Settled}
-use Rattle.theory.specs.RelationLaws.{pair_small}
+use Rattle.theory.proofs.RelationLaws.{pair_small}
 use Rattle.theory.specs.Reading.{empty}
 use Rattle.theory.specs.Rows.{stands, whole, WholeRows}
-use Rattle.theory.specs.RowsLaws.{whole_i, whole_rows_e}
+use Rattle.theory.proofs.RowsLaws.{whole_i, whole_rows_e}
 use Rattle.theory.specs.Choice.{free, Fixed, Allowed, clash_from, clash_to}
-use Rattle.theory.specs.ChoiceLaws.{clash-le, no_clash}
+use Rattle.theory.proofs.ChoiceLaws.{clash-le, no_clash}
 use Rattle.refusal.specs.Said.{says}
 use Rattle.table.specs.declared.layout.Row.{Row}
 use Rattle.table.specs.Layout.{size_of, table_row, search_rows, search_row, row_number, at}

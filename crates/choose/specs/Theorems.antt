@@ -6,10 +6,10 @@ use Rattle.theory.specs.Relation.{Settled, Largest}
 use Rattle.theory.specs.Reading.{Full, empty}
 use Rattle.theory.specs.Rows.{WholeRows}
 use Rattle.theory.specs.Choice.{by_number, Fixed, Keeps, left, Walked, walk, clash_from}
-use Rattle.theory.specs.ChoiceLaws.{left_same, walk_walked, clash-le, no_clash, keeps_allowed}
-use Rattle.theory.specs.Theorems as theory
+use Rattle.theory.proofs.ChoiceLaws.{left_same, walk_walked, clash-le, no_clash, keeps_allowed}
+use Rattle.theory.proofs.Theorems as theory
 use Rattle.refusal.specs.Said.{Said, says}
-use Rattle.refusal.specs.RefusalLaws.{refused_determines}
+use Rattle.refusal.proofs.Determined.{refused_determines}
 use Rattle.table.specs.Layout.{size_of}
 use Rattle.table.specs.CheckLaws.{passed}
 use Rattle.table.specs.Shape.{GoodTable}

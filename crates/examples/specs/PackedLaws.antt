@@ -11,16 +11,16 @@ use Rattle.theory.specs.Limits.{readings_most}
 use Rattle.theory.specs.Bound.{all}
 use Rattle.theory.specs.BoundLaws.{and_i, and_l, and_r, imp_by, imp_use, not_e, known, T_ext, all_i, all_e, any_i, any_e}
 use Rattle.theory.specs.Relation.{Rel, WellFormed, Agree, round, rounds}
-use Rattle.theory.specs.RelationLaws.{round_in, rounds_wf, settled_unchanged, unchanged_settled}
-use Rattle.theory.specs.AgreeLaws.{agree_sym, agree_trans, agree_round, agree_stable}
+use Rattle.theory.proofs.RelationLaws.{round_in, rounds_wf, settled_unchanged, unchanged_settled}
+use Rattle.theory.proofs.AgreeLaws.{agree_sym, agree_trans, agree_round, agree_stable}
 use Rattle.theory.specs.Reading.{Full}
-use Rattle.theory.specs.ReadingLaws.{full-inside}
+use Rattle.theory.proofs.ReadingLaws.{full-inside}
 use Rattle.theory.specs.Rows.{stands, Whole, whole}
-use Rattle.theory.specs.RowsLaws.{stands_agree, whole_i, whole_e}
+use Rattle.theory.proofs.RowsLaws.{stands_agree, whole_i, whole_e}
 use Rattle.theory.specs.Settling.{stable, steps}
-use Rattle.theory.specs.SettlingLaws.{stable_i, stable_e}
+use Rattle.theory.proofs.SettlingLaws.{stable_i, stable_e}
 use Rattle.theory.specs.Choice.{put}
-use Rattle.theory.specs.Theorems.{settled_iff_enough}
+use Rattle.theory.proofs.Theorems.{settled_iff_enough}
 use Rattle.words.specs.WordLaws.{bit-pack}
 use Rattle.examples.specs.Packed.{packed, unpacked, after, takes, whole_in, broken_in, full, some_full}
 

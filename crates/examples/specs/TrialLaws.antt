@@ -13,14 +13,14 @@ use Rattle.theory.specs.Limits.{readings_most}
 use Rattle.theory.specs.Bound.{all, first, val}
 use Rattle.theory.specs.BoundLaws.{and_i, and_l, and_r, imp_by, imp_use, T_ext, lt_or_ge, all_e, any_same, first_same}
 use Rattle.theory.specs.Relation.{Rel, WellFormed, Agree, Settled, rounds}
-use Rattle.theory.specs.RelationLaws.{pair_small, rounds_wf}
-use Rattle.theory.specs.AgreeLaws.{agree_sym, agree_trans, agree_wf, agree_settled, agree_full, agree_kept_count, agree_empty, agree_whole, agree_allowed, agree_first}
+use Rattle.theory.proofs.RelationLaws.{pair_small, rounds_wf}
+use Rattle.theory.proofs.AgreeLaws.{agree_sym, agree_trans, agree_wf, agree_settled, agree_full, agree_kept_count, agree_empty, agree_whole, agree_allowed, agree_first}
 use Rattle.theory.specs.Reading.{kept, kept_count, empty}
 use Rattle.theory.specs.Settling.{steps}
-use Rattle.theory.specs.SettlingLaws.{steps-settled}
+use Rattle.theory.proofs.SettlingLaws.{steps-settled}
 use Rattle.theory.specs.Choice.{by_number, First, walk, clash, clash_from, clash_to}
-use Rattle.theory.specs.ChoiceLaws.{clash-le}
-use Rattle.theory.specs.Theorems.{first_exists}
+use Rattle.theory.proofs.ChoiceLaws.{clash-le}
+use Rattle.theory.proofs.Theorems.{first_exists}
 use Rattle.refusal.specs.Said.{Said, says}
 use Rattle.calendar.specs.DateText.{separator}
 use Rattle.calendar.specs.DateAnswers.{date_says}

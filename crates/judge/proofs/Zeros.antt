@@ -15,7 +15,7 @@ use Rattle.theory.specs.Limits.{readings_most}
 use Rattle.theory.specs.Bound.{all}
 use Rattle.theory.specs.BoundLaws.{T_ext, all_i, all_e, not_e, lt_or_ge}
 use Rattle.theory.specs.Reading.{holds, empty}
-use Rattle.theory.specs.ReadingLaws.{holds_i, empty_i}
+use Rattle.theory.proofs.ReadingLaws.{holds_i, empty_i}
 use Rattle.words.specs.Word.{bit}
 use Rattle.words.specs.WordLaws.{zero_of, zero_no}
 use Rattle.table.specs.Layout.{table_length, table_row, row, row_number, rel}

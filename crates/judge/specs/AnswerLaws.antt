@@ -2,7 +2,7 @@
 use Rattle.std.specs.Prelude.{◌≡◌, refl, List, [], ◌∷◌, ℕ, length, get_or}
 use Rattle.std.proofs.Common.{sym, ap, arith}
 use Rattle.refusal.specs.Said.{Said, says}
-use Rattle.refusal.specs.RefusalLaws.{refused_determines}
+use Rattle.refusal.proofs.Determined.{refused_determines}
 use Rattle.table.specs.AnswerLaws.{no_result}
 use Rattle.judge.specs.declared.keeping.KeptCount.{KeptCount}
 use Rattle.judge.specs.declared.judging.Rows.{Rows}

@@ -11,10 +11,10 @@ use Rattle.theory.specs.Limits.{readings_most}
 use Rattle.theory.specs.Bound.{first, val}
 use Rattle.theory.specs.BoundLaws.{not_i, not_e, not-not, first-le, first_holds, first_least, first_none, lt_or_ge}
 use Rattle.theory.specs.Relation.{Rel, WellFormed}
-use Rattle.theory.specs.RelationLaws.{pair_small}
+use Rattle.theory.proofs.RelationLaws.{pair_small}
 use Rattle.theory.specs.Reading.{kept_count}
 use Rattle.theory.specs.Rows.{stands, Whole, whole, WholeRows}
-use Rattle.theory.specs.RowsLaws.{whole_i, whole_e, whole_rows_e}
+use Rattle.theory.proofs.RowsLaws.{whole_i, whole_e, whole_rows_e}
 use Rattle.refusal.specs.Said.{Said, says}
 use Rattle.table.specs.declared.layout.Row.{Row}
 use Rattle.table.specs.Layout.{table_length, cell_start, cell_of, rel, search_rows, search_row, row_number, at, RowIn, size_of}

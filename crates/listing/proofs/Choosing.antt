@@ -10,10 +10,10 @@ use lib.ListN.{length, take, replicate, get_or-replicate}
 use lib.Seq.{get_or-take}
 use Rattle.theory.specs.BoundLaws.{known}
 use Rattle.theory.specs.Relation.{Rel}
-use Rattle.theory.specs.RelationLaws.{pair_small}
+use Rattle.theory.proofs.RelationLaws.{pair_small}
 use Rattle.theory.specs.Reading.{empty}
 use Rattle.theory.specs.Choice.{by_number, Fixed, First, walk}
-use Rattle.theory.specs.Theorems.{first_exists, first_is_one}
+use Rattle.theory.proofs.Theorems.{first_exists, first_is_one}
 use Rattle.refusal.specs.Said.{Said}
 use Rattle.refusal.specs.declared.Refusal.{Refusal}
 use Rattle.table.specs.Layout.{rel, size_of}

@@ -7,9 +7,9 @@ use native.Mathlib.Omega.{arith}
 use lib.ListN.{length}
 use Rattle.theory.specs.Limits.{readings_most, rounds_most}
 use Rattle.theory.specs.Relation.{rounds}
-use Rattle.theory.specs.RelationLaws.{largest_unique}
+use Rattle.theory.proofs.RelationLaws.{largest_unique}
 use Rattle.theory.specs.Settling.{steps}
-use Rattle.theory.specs.Theorems.{settled_iff_enough, settled_answer_is_largest, budget_rounds_most_settles}
+use Rattle.theory.proofs.Theorems.{settled_iff_enough, settled_answer_is_largest, budget_rounds_most_settles}
 use Rattle.refusal.specs.declared.Refusal.{Refusal}
 use Rattle.table.specs.Layout.{rel, size_of}
 use Rattle.settle.specs.declared.Settling.{Settling}

@@ -9,16 +9,16 @@ use Rattle.theory.specs.Limits.{readings_most}
 use Rattle.theory.specs.Bound.{first}
 use Rattle.theory.specs.BoundLaws.{lt_or_ge, first_same}
 use Rattle.theory.specs.Relation.{Rel, WellFormed, Agree, Settled, rounds}
-use Rattle.theory.specs.RelationLaws.{pair_small, rounds_wf}
-use Rattle.theory.specs.AgreeLaws.{agree_empty, agree_rounds, agree_steps, agree_walked}
+use Rattle.theory.proofs.RelationLaws.{pair_small, rounds_wf}
+use Rattle.theory.proofs.AgreeLaws.{agree_empty, agree_rounds, agree_steps, agree_walked}
 use Rattle.theory.specs.Reading.{kept, empty}
 use Rattle.theory.specs.Rows.{whole, WholeRows}
-use Rattle.theory.specs.RowsLaws.{stands_agree}
+use Rattle.theory.proofs.RowsLaws.{stands_agree}
 use Rattle.theory.specs.Settling.{steps}
-use Rattle.theory.specs.SettlingLaws.{steps-settled}
+use Rattle.theory.proofs.SettlingLaws.{steps-settled}
 use Rattle.theory.specs.Choice.{by_number, Same, walk}
-use Rattle.theory.specs.ChoiceLaws.{walk_walked, walked_unique}
-use Rattle.theory.specs.Theorems.{field_order, first_exists}
+use Rattle.theory.proofs.ChoiceLaws.{walk_walked, walked_unique}
+use Rattle.theory.proofs.Theorems.{field_order, first_exists}
 use Rattle.refusal.specs.Said.{says}
 use Rattle.table.specs.Layout.{RowIn, search_rows, search_row, at}
 use Rattle.table.specs.LayoutLaws.{row_in, search_is_table}

@@ -12,7 +12,7 @@ use Rattle.theory.specs.Relation.{Rel, WellFormed, Settled}
 use Rattle.theory.specs.Reading.{empty}
 use Rattle.theory.specs.Settling.{steps}
 use Rattle.theory.specs.Choice.{by_number, First}
-use Rattle.theory.specs.Theorems.{first_exists, first_is_one, steps_at_most_rounds_most}
+use Rattle.theory.proofs.Theorems.{first_exists, first_is_one, steps_at_most_rounds_most}
 use Rattle.refusal.specs.Said.{Said, says}
 use Rattle.calendar.specs.Calendar.{last_day}
 use Rattle.scan.specs.Sheet.{Record, fields_of, early, Scanned, whole, faulty, scan}

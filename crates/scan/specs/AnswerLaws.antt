@@ -2,7 +2,8 @@
 use Rattle.std.specs.Prelude.{◌≡◌, Bool, List, ℕ, get_or}
 use Rattle.std.proofs.Common.{sym, ap, ◌∙◌, arith}
 use Rattle.refusal.specs.Said.{Said}
-use Rattle.refusal.specs.RefusalLaws.{numbered, refused_determines}
+use Rattle.refusal.specs.RefusalLaws.{numbered}
+use Rattle.refusal.proofs.Determined.{refused_determines}
 use Rattle.scan.specs.declared.Opened.{Opened}
 use Rattle.scan.specs.declared.Opened.TheVariants.{Fields, Refused}
 use Rattle.scan.specs.Sheet.{scan}

@@ -10,11 +10,11 @@ use borrow.Author.Tests.{ne_eqb, le-leb, lt-leb}
 use Rattle.theory.specs.Bound.{val}
 use Rattle.theory.specs.BoundLaws.{lt_or_ge}
 use Rattle.theory.specs.Relation.{Rel, Agree, rounds}
-use Rattle.theory.specs.RelationLaws.{pair_small, rounds_wf}
+use Rattle.theory.proofs.RelationLaws.{pair_small, rounds_wf}
 use Rattle.theory.specs.Reading.{holds, empty}
 use Rattle.theory.specs.Settling.{steps}
-use Rattle.theory.specs.SettlingLaws.{steps-settled}
-use Rattle.theory.specs.AgreeLaws.{agree_holds}
+use Rattle.theory.proofs.SettlingLaws.{steps-settled}
+use Rattle.theory.proofs.AgreeLaws.{agree_holds}
 use Rattle.refusal.specs.Said.{Said, says, refused}
 use Rattle.refusal.specs.declared.Refusal.{Refusal}
 use Rattle.refusal.specs.declared.Refusal.TheVariants.{Lent as WrongLength}

@@ -13,7 +13,7 @@ use Rattle.theory.specs.Bound.{first}
 use Rattle.theory.specs.BoundLaws.{T_ext, not_i, not_e, known, first_holds}
 use Rattle.theory.specs.Relation.{Rel, Settled}
 use Rattle.theory.specs.Reading.{holds, empty}
-use Rattle.theory.specs.ReadingLaws.{holds_i, holds_e, filled_i, settled-filled}
+use Rattle.theory.proofs.ReadingLaws.{holds_i, holds_e, filled_i, settled-filled}
 use Rattle.words.specs.Word.{bit}
 use Rattle.words.specs.WordLaws.{zero_no}
 use Rattle.words.specs.EndLaws.{first_one}

@@ -10,7 +10,7 @@ use Rattle.theory.specs.Limits.{readings_most}
 use Rattle.theory.specs.Bound.{all, any}
 use Rattle.theory.specs.BoundLaws.{and_i, T_ext, all_i, any_same}
 use Rattle.theory.specs.Relation.{composed, round}
-use Rattle.theory.specs.RelationLaws.{round_in, round-composed}
+use Rattle.theory.proofs.RelationLaws.{round_in, round-composed}
 use Rattle.words.specs.Word.{bit, pack}
 use Rattle.words.specs.WordLaws.{bit-pack, pack-lt, pack_of, zero_no}
 use Rattle.table.specs.Layout.{cell_of, row, rel}

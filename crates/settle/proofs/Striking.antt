@@ -13,7 +13,7 @@ use Rattle.theory.specs.Bound.{first}
 use Rattle.theory.specs.BoundLaws.{and_i, and_l, and_r, or_l, or_r, or_e, not_e, known, first_holds}
 use Rattle.theory.specs.Relation.{Rel}
 use Rattle.theory.specs.Strike.{either}
-use Rattle.theory.specs.StrikeLaws.{strike_i, strike_in, strike_out}
+use Rattle.theory.proofs.StrikeLaws.{strike_i, strike_in, strike_out}
 use Rattle.words.specs.Word.{bit}
 use Rattle.words.specs.WordLaws.{zero_no}
 use Rattle.words.specs.EndLaws.{first_one, clear_lowest}

@@ -10,10 +10,10 @@ use borrow.Author.Tests.{le-leb, lt-leb}
 use Rattle.theory.specs.Limits.{fields_most}
 use Rattle.theory.specs.BoundLaws.{lt_or_ge}
 use Rattle.theory.specs.Relation.{Rel, WellFormed, Agree, rounds}
-use Rattle.theory.specs.RelationLaws.{pair_small, rounds_wf, settled_unchanged, unchanged_settled}
+use Rattle.theory.proofs.RelationLaws.{pair_small, rounds_wf, settled_unchanged, unchanged_settled}
 use Rattle.theory.specs.Settling.{steps}
-use Rattle.theory.specs.SettlingLaws.{steps-settled, steps_least}
-use Rattle.theory.specs.AgreeLaws.{agree_sym, agree_round, agree_wf}
+use Rattle.theory.proofs.SettlingLaws.{steps-settled, steps_least}
+use Rattle.theory.proofs.AgreeLaws.{agree_sym, agree_round, agree_wf}
 use Rattle.table.specs.Layout.{table_length, rel, words}
 use Rattle.table.specs.LayoutLaws.{Narrow, Fit, rel-words, length-words, words_same, words-rel}
 use Rattle.settle.specs.declared.running.Stop.{Stop}

@@ -5,7 +5,7 @@ use Rattle.theory.specs.Limits.{readings_most}
 use Rattle.theory.specs.Bound.{first}
 use Rattle.theory.specs.BoundLaws.{and_i, and_r, lt_or_ge, any_i, any_e, first_is, first-le, first_holds, first_least}
 use Rattle.theory.specs.Relation.{Rel, Settled}
-use Rattle.theory.specs.RelationLaws.{within_settled, settled_unchanged}
+use Rattle.theory.proofs.RelationLaws.{within_settled, settled_unchanged}
 use Rattle.refusal.specs.Said.{Said, says, refused}
 use Rattle.refusal.specs.declared.Refusal.TheVariants.{Unsettled}
 use Rattle.table.specs.Layout.{table_rows, table_row, row_number, at, first_row}

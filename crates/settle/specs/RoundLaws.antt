@@ -9,11 +9,11 @@ use Rattle.std.proofs.Math.Dec.{ltb}
 use Rattle.theory.specs.Limits.{readings_most}
 use Rattle.theory.specs.BoundLaws.{and_i, and_l, and_r, or_l, or_r, or_e, not_i, not_e, known, lt_or_ge, T_ext, any_i, any_e, any_same}
 use Rattle.theory.specs.Relation.{Rel, Agree, round}
-use Rattle.theory.specs.RelationLaws.{composed_i, composed_e, round_i, round_in, round-composed}
+use Rattle.theory.proofs.RelationLaws.{composed_i, composed_e, round_i, round_in, round-composed}
 use Rattle.theory.specs.Reading.{holds}
-use Rattle.theory.specs.ReadingLaws.{holds_i, holds_e}
+use Rattle.theory.proofs.ReadingLaws.{holds_i, holds_e}
 use Rattle.theory.specs.Settling.{Stable}
-use Rattle.theory.specs.AgreeLaws.{agree_round, agree_holds}
+use Rattle.theory.proofs.AgreeLaws.{agree_round, agree_holds}
 use Rattle.words.specs.Word.{bit}
 use Rattle.words.specs.WordLaws.{zero_no, zero_of, bit-pack, pack_of, pack-lt, pack_same}
 use Rattle.words.specs.MachineLaws.{bit_or_lem, bit-ones}

@@ -9,7 +9,8 @@ use Rattle.theory.specs.Reading.{empty}
 use Rattle.theory.specs.Settling.{steps}
 use Rattle.refusal.specs.Said.{Said, says, refused}
 use Rattle.refusal.specs.Refusals.{number}
-use Rattle.refusal.specs.RefusalLaws.{numbered, refused_determines}
+use Rattle.refusal.specs.RefusalLaws.{numbered}
+use Rattle.refusal.proofs.Determined.{refused_determines}
 use Rattle.refusal.specs.declared.Refusal.{Refusal}
 use Rattle.table.specs.Layout.{table_length, rel, words}
 use Rattle.table.specs.Checks.{Check}

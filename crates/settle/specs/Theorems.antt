@@ -8,14 +8,14 @@ use Rattle.theory.specs.Limits.{rounds_most}
 use Rattle.theory.specs.Bound.{val}
 use Rattle.theory.specs.BoundLaws.{T_ext, lt_or_ge}
 use Rattle.theory.specs.Relation.{Rel, WellFormed, Agree, Settled, round, rounds, Largest, Sound}
-use Rattle.theory.specs.RelationLaws.{pair_small, rounds_wf, rounds_sound, sound_largest, largest_unique, settled_unchanged}
+use Rattle.theory.proofs.RelationLaws.{pair_small, rounds_wf, rounds_sound, sound_largest, largest_unique, settled_unchanged}
 use Rattle.theory.specs.Reading.{Full, holds, empty, pairs}
-use Rattle.theory.specs.ReadingLaws.{sound_full, filled_i, settled-filled, pairs_most_lem, pairs_most_limit}
+use Rattle.theory.proofs.ReadingLaws.{sound_full, filled_i, settled-filled, pairs_most_lem, pairs_most_limit}
 use Rattle.theory.specs.Choice.{First}
 use Rattle.theory.specs.Settling.{steps, Settles, Unfinished}
-use Rattle.theory.specs.SettlingLaws.{steps-le, steps-settled, settles-steps, unfinished-steps}
-use Rattle.theory.specs.Theorems.{steps_are_least, steps_at_most_rounds_most, empty_means_no_full_reading, first_of_opening}
-use Rattle.theory.specs.AgreeLaws.{agree_sym, agree_wf, agree_settled, agree_round, agree_empty}
+use Rattle.theory.proofs.SettlingLaws.{steps-le, steps-settled, settles-steps, unfinished-steps}
+use Rattle.theory.proofs.Theorems.{steps_are_least, steps_at_most_rounds_most, empty_means_no_full_reading, first_of_opening}
+use Rattle.theory.proofs.AgreeLaws.{agree_sym, agree_wf, agree_settled, agree_round, agree_empty}
 use Rattle.refusal.specs.Said.{Said, says}
 use Rattle.refusal.specs.declared.Refusal.{Refusal}
 use Rattle.table.specs.Layout.{words, size_of}

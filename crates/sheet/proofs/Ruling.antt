@@ -12,7 +12,7 @@ use Rattle.theory.specs.Limits.{fields_most, readings_most}
 use Rattle.theory.specs.BoundLaws.{and_l, and_r}
 use Rattle.theory.specs.Relation.{Agree}
 use Rattle.theory.specs.Strike.{strike as without}
-use Rattle.theory.specs.StrikeLaws.{strike_in}
+use Rattle.theory.proofs.StrikeLaws.{strike_in}
 use Rattle.calendar.specs.DateText.{date_length, short_length, separator}
 use Rattle.table.specs.Layout.{Sized, rel, words, size_of}
 use Rattle.table.specs.LayoutLaws.{Fit, Narrow, rel-words, length-words, words_same, words-rel}

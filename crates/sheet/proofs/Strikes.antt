@@ -19,7 +19,7 @@ use Rattle.table.specs.LayoutLaws.{rel-bit, rel-narrow}
 use Rattle.table.specs.StrikeLaws.{strike-both}
 use Rattle.scan.specs.Sheet.{Record, field, gap, strike, any_pair}
 use Rattle.sheet.specs.Opening.{day_of, admits, outside, turned, struck_by, struck_by_all, everything, opening}
-use Rattle.theory.specs.StrikeLaws.{strike_in}
+use Rattle.theory.proofs.StrikeLaws.{strike_in}
 use Rattle.sheet.specs.OpeningLaws.{everything_e}
 use Rattle.sheet.specs.AllowedLaws.{admits_e, admits_i}
 use Rattle.sheet.specs.Writing.{narrowed_row, CellNarrowed}

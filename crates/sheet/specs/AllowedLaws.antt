@@ -10,7 +10,7 @@ use Rattle.std.proofs.Math.Dec.{T, eqb→eq, eqb_refl}
 use Rattle.std.proofs.Math.ListN.{length}
 use Rattle.theory.specs.BoundLaws.{and_i, and_l, and_r, or_l, or_r, or_e, not_e, known}
 use Rattle.theory.specs.Strike.{nothing, either}
-use Rattle.theory.specs.StrikeLaws.{strike_i, strike_in, strike_out}
+use Rattle.theory.proofs.StrikeLaws.{strike_i, strike_in, strike_out}
 use Rattle.table.specs.Strike.{one_pair, pair_and_mirror}
 use Rattle.table.specs.StrikeLaws.{pair_here, pair_turn}
 use Rattle.scan.specs.Sheet.{Record, field, gap, strike}

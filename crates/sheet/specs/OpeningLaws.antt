@@ -6,10 +6,10 @@ use Rattle.std.proofs.Math.Dec.{T, eqb, ltb, eqb→eq, eqb_refl, ltb→lt}
 use Rattle.std.proofs.lemmas.List.{length-map}
 use Rattle.theory.specs.BoundLaws.{and_i, and_l, and_r, imp_by, imp_use, T_ext}
 use Rattle.theory.specs.Relation.{WellFormed, Agree}
-use Rattle.theory.specs.RelationLaws.{pair_small}
-use Rattle.theory.specs.AgreeLaws.{agree_sym, agree_wf}
+use Rattle.theory.proofs.RelationLaws.{pair_small}
+use Rattle.theory.proofs.AgreeLaws.{agree_sym, agree_wf}
 use Rattle.theory.specs.Strike.{nothing, either}
-use Rattle.theory.specs.StrikeLaws.{strike_wf}
+use Rattle.theory.proofs.StrikeLaws.{strike_wf}
 use Rattle.table.specs.Layout.{rel, words, size_of}
 use Rattle.table.specs.LayoutLaws.{length-words, rel-words}
 use Rattle.table.specs.Shape.{GoodSizes, GoodTable}

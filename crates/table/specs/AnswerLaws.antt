@@ -3,7 +3,8 @@ use Rattle.std.specs.Prelude.{◌≡◌, refl, List, [], ℕ}
 use Rattle.std.proofs.Common.{sym, ap, ◌∙◌, arith}
 use Rattle.refusal.specs.Said.{Said, says, refused}
 use Rattle.refusal.specs.Refusals.{number}
-use Rattle.refusal.specs.RefusalLaws.{numbered, refused_determines}
+use Rattle.refusal.specs.RefusalLaws.{numbered}
+use Rattle.refusal.proofs.Determined.{refused_determines}
 use Rattle.refusal.specs.declared.Refusal.{Refusal}
 use Rattle.table.specs.declared.shaping.Shaped.{Shaped}
 use Rattle.table.specs.declared.shaping.Shaped.TheVariants.{Good, Refused}

@@ -11,7 +11,7 @@ use Rattle.theory.specs.Limits.{readings_most}
 use Rattle.theory.specs.BoundLaws.{and_i, and_l, and_r, or_l, not_i, T_ext, lt_or_ge}
 use Rattle.theory.specs.Relation.{Rel, Agree, WellFormed}
 use Rattle.theory.specs.Strike.{strike, either}
-use Rattle.theory.specs.StrikeLaws.{strike_wf}
+use Rattle.theory.proofs.StrikeLaws.{strike_wf}
 use Rattle.words.specs.Word.{bit, pack}
 use Rattle.words.specs.WordLaws.{bit-pack}
 use Rattle.table.specs.Layout.{table_length, row_number, row, rel}

@@ -12,7 +12,7 @@ use lib.Count.{count_leading_zeros, count_trailing_zeros}
 use Rattle.theory.specs.Bound.{any, first}
 use Rattle.theory.specs.BoundLaws.{T_ext, and_i, and_l, and_r, not_i, not_e, known, any_i, any_e, any_same, first_holds, first_found}
 use Rattle.theory.specs.Rows.{Whole, whole}
-use Rattle.theory.specs.RowsLaws.{whole_i, whole_e}
+use Rattle.theory.proofs.RowsLaws.{whole_i, whole_e}
 use Rattle.words.specs.Word.{bit, pack, spanned}
 use Rattle.words.specs.WordLaws.{bit-lt, zero_no, pack_of, bit-pack}
 use Rattle.words.specs.MachineLaws.{bit-and, bit-ones, bit-shr, bit-shl}

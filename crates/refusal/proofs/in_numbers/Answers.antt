@@ -1,5 +1,4 @@
 -- `refusal::in_numbers` meets its contract: each arm prints the number and the place of the case that it is.
-use borrow.Author.Rules.{rules}
 use mathlib.Core.Path.{◌≡◌, refl, sym, subst}
 use Rattle.refusal.specs.declared.Refusal.{Refusal}
 use Rattle.refusal.specs.declared.Printed.{Printed}

@@ -6,9 +6,9 @@ use Rattle.theory.specs.Limits.{readings_most}
 use Rattle.theory.specs.Bound.{any, first}
 use Rattle.theory.specs.BoundLaws.{known, not_e, lt_or_ge, upto, any_i, any_e, first_found}
 use Rattle.theory.specs.Relation.{Rel, WellFormed, Settled}
-use Rattle.theory.specs.RelationLaws.{turned, pair_kept, composed_e}
+use Rattle.theory.proofs.RelationLaws.{turned, pair_kept, composed_e}
 use Rattle.theory.specs.Reading.{kept, empty}
-use Rattle.theory.specs.ReadingLaws.{settled-kept}
+use Rattle.theory.proofs.ReadingLaws.{settled-kept}
 use Rattle.theory.specs.Rows.{Whole}
 
 -- no number below k is on

@@ -5,7 +5,7 @@ use Rattle.theory.specs.Limits.{readings_most}
 use Rattle.theory.specs.Bound.{all}
 use Rattle.theory.specs.BoundLaws.{and_i, and_l, and_r, imp_by, imp_use, all_i, all_e}
 use Rattle.theory.specs.Relation.{Rel, WellFormed, Agree, Settled}
-use Rattle.theory.specs.RelationLaws.{pair_small}
+use Rattle.theory.proofs.RelationLaws.{pair_small}
 use Rattle.theory.specs.Rows.{stands, Whole, whole, WholeRows}
 
 -- in a settled table every reading that goes with some other stands

@@ -8,11 +8,11 @@ use Rattle.theory.specs.Bound.{all, any, sum, count}
 use Rattle.theory.specs.BoundLaws.{and_i, and_l, and_r, not_e, imp_use, T_ext, all_e, all4_e}
 use Rattle.theory.specs.Relation.{Rel, WellFormed, composed, Settled, round, rounds}
 use Rattle.theory.specs.Reading.{Full, kept, kept_count, empty}
-use Rattle.theory.specs.ReadingLaws.{holds_i, filled_i}
+use Rattle.theory.proofs.ReadingLaws.{holds_i, filled_i}
 use Rattle.theory.specs.Rows.{stands, whole}
 use Rattle.theory.specs.Settling.{steps}
-use Rattle.theory.specs.RelationLaws.{settled_unchanged, unchanged_settled, rounds_wf}
-use Rattle.theory.specs.Theorems.{settled_iff_enough, steps_are_least}
+use Rattle.theory.proofs.RelationLaws.{settled_unchanged, unchanged_settled, rounds_wf}
+use Rattle.theory.proofs.Theorems.{settled_iff_enough, steps_are_least}
 
 -- R among k readings a field
 below : ℕ → Rel → Rel

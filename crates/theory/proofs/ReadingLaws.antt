@@ -6,7 +6,7 @@ use Rattle.theory.specs.Limits.{fields_most, readings_most, rounds_most}
 use Rattle.theory.specs.Bound.{all, any, sum, count}
 use Rattle.theory.specs.BoundLaws.{and_i, and_l, and_r, not_i, not_e, not-not, all_i, all_e, all-not, any_i, any_e, sum-le, sum_lt, sum_last, sum_most, count-le, count-lt, count_most, count_one}
 use Rattle.theory.specs.Relation.{Rel, WellFormed, Within, Settled, Sound}
-use Rattle.theory.specs.RelationLaws.{pair_small, pair_kept, composed_i, composed_e}
+use Rattle.theory.proofs.RelationLaws.{pair_small, pair_kept, composed_i, composed_e}
 use Rattle.theory.specs.Reading.{Full, kept, holds, empty, pairs, pairs_most}
 
 -- full readings

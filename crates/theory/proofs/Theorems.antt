@@ -4,19 +4,19 @@ use Rattle.std.proofs.Common.{◌∙◌, inl, inr, le_refl, le_antisymm, arith, 
 use Rattle.theory.specs.Limits.{fields_most, rounds_most}
 use Rattle.theory.specs.BoundLaws.{known, not_i, not_e, lt_or_ge}
 use Rattle.theory.specs.Relation.{Rel, WellFormed, Within, Agree, Settled, round, rounds, Largest, Sound}
-use Rattle.theory.specs.RelationLaws.{pair_small, round_sound, round_within, round_wf, rounds_sound, settled_unchanged, unchanged_settled, settled-stays, sound_refl, sound_trans, sound_chain, sound_largest, largest_sound, largest_mono, largest_unique, largest_self, largest_wf}
+use Rattle.theory.proofs.RelationLaws.{pair_small, round_sound, round_within, round_wf, rounds_sound, settled_unchanged, unchanged_settled, settled-stays, sound_refl, sound_trans, sound_chain, sound_largest, largest_sound, largest_mono, largest_unique, largest_self, largest_wf}
 use Rattle.theory.specs.Reading.{Full, kept, holds, empty, pairs, pairs_most}
-use Rattle.theory.specs.ReadingLaws.{sound_full, holds_i, empty_i, empty_e, filled_i, settled-filled, pairs_most_lem, pairs_most_limit}
+use Rattle.theory.proofs.ReadingLaws.{sound_full, holds_i, empty_i, empty_e, filled_i, settled-filled, pairs_most_lem, pairs_most_limit}
 use Rattle.theory.specs.Rows.{stands, Whole, WholeRows}
-use Rattle.theory.specs.RowsLaws.{stands-inside}
-use Rattle.theory.specs.Interval.{step_lemma}
+use Rattle.theory.proofs.RowsLaws.{stands-inside}
+use Rattle.theory.proofs.Interval.{step_lemma}
 use Rattle.theory.specs.Settling.{Stable, stable, steps, Settles, Unfinished}
-use Rattle.theory.specs.SettlingLaws.{stable_i, stable_e, round_removes, round_fewer, steps-le, steps-settled, steps_least, settles-steps, unfinished-steps, settles_unique, settles-not-unfinished, settles_larger}
+use Rattle.theory.proofs.SettlingLaws.{stable_i, stable_e, round_removes, round_fewer, steps-le, steps-settled, steps_least, settles-steps, unfinished-steps, settles_unique, settles-not-unfinished, settles_larger}
 use Rattle.theory.specs.Choice.{Order, by_number, Fixed, Keeps, Allowed, Same, First, left, Walked, only, walk, WholeAlong, clash, clash_from, clash_to}
-use Rattle.theory.specs.ChoiceLaws.{left_i, full-left, walked_left, walked_first, walked_unique, walk_walked, first_unique, keeps_allowed, only_here, only_allowed, clash_i, clash_e, clash-le, clash-found, no_clash}
+use Rattle.theory.proofs.ChoiceLaws.{left_i, full-left, walked_left, walked_first, walked_unique, walk_walked, first_unique, keeps_allowed, only_here, only_allowed, clash_i, clash_e, clash-le, clash-found, no_clash}
 use Rattle.theory.specs.Strike.{strike, Run}
-use Rattle.theory.specs.StrikeLaws.{strike_within, strike_wf, strike_agree, run_largest}
-use Rattle.theory.specs.AgreeLaws.{agree_largest}
+use Rattle.theory.proofs.StrikeLaws.{strike_within, strike_wf, strike_agree, run_largest}
+use Rattle.theory.proofs.AgreeLaws.{agree_largest}
 
 -- 1. Rounds (01, "Settling": one round replaces every cell by what lies in it and in every composition)
 

@@ -5,12 +5,12 @@ use Rattle.std.proofs.Math.Dec.{eqb_refl}
 use Rattle.theory.specs.Bound.{all, any, first}
 use Rattle.theory.specs.BoundLaws.{and_i, and_l, and_r, or_l, or_r, or_by, or_use, not_i, not_e, known, T_ext, lt_or_ge, upto, all_i, all_e, any_i, any_e, first-le, first_holds, first_found, first_same, first_none, onto_once}
 use Rattle.theory.specs.Relation.{Rel, WellFormed, Settled}
-use Rattle.theory.specs.RelationLaws.{turned}
+use Rattle.theory.proofs.RelationLaws.{turned}
 use Rattle.theory.specs.Reading.{Full, kept, empty}
-use Rattle.theory.specs.ReadingLaws.{full-inside}
-use Rattle.theory.specs.RowsLaws.{stands-inside}
+use Rattle.theory.proofs.ReadingLaws.{full-inside}
+use Rattle.theory.proofs.RowsLaws.{stands-inside}
 use Rattle.theory.specs.Rows.{stands, Whole}
-use Rattle.theory.specs.Interval.{step_lemma}
+use Rattle.theory.proofs.Interval.{step_lemma}
 use Rattle.theory.specs.Choice.{Order, free, Fixed, Keeps, Allowed, Same, Before, First, left, Walked, put, only, walk, WholeAlong, clash, clash_from, clash_to}
 
 -- what `left` tests

@@ -3,7 +3,7 @@ use Rattle.std.specs.Prelude.{◌≡◌, not, ◌&&◌, ℕ, ◌<◌, T}
 use Rattle.std.proofs.Common.{ap₂, ap}
 use Rattle.theory.specs.BoundLaws.{and_i, and_l, and_r, or_l, or_r, or_use, not_i, not_e}
 use Rattle.theory.specs.Relation.{Rel, WellFormed, Within, Agree, Settled, Largest, Sound}
-use Rattle.theory.specs.RelationLaws.{sound_trans, sound_largest}
+use Rattle.theory.proofs.RelationLaws.{sound_trans, sound_largest}
 use Rattle.theory.specs.Strike.{strike, nothing, either, Run, start, struck, reduced}
 
 pub strike_i : (P R : Rel) (i j a b : ℕ) → T (R i j a b) → (T (P i j a b) → ⊥) → T (strike P R i j a b)

@@ -7,13 +7,13 @@ use Rattle.theory.specs.Limits.{readings_most}
 use Rattle.theory.specs.Bound.{first}
 use Rattle.theory.specs.BoundLaws.{T_ext, all_same, any_same, first_same, sum_same, count_same}
 use Rattle.theory.specs.Relation.{Rel, WellFormed, Within, Agree, composed, Settled, round, rounds, Largest, Sound}
-use Rattle.theory.specs.RelationLaws.{composed_within, round_mono}
+use Rattle.theory.proofs.RelationLaws.{composed_within, round_mono}
 use Rattle.theory.specs.Reading.{Full, kept_count, holds, empty, pairs}
 use Rattle.theory.specs.Rows.{WholeRows}
-use Rattle.theory.specs.RowsLaws.{stands_agree}
+use Rattle.theory.proofs.RowsLaws.{stands_agree}
 use Rattle.theory.specs.Settling.{Stable, stable, steps, Settles, Unfinished}
 use Rattle.theory.specs.Choice.{Order, Allowed, First, left, Walked}
-use Rattle.theory.specs.ChoiceLaws.{left_e, left_i}
+use Rattle.theory.proofs.ChoiceLaws.{left_e, left_i}
 
 -- agreement
 

@@ -4,9 +4,9 @@ use Rattle.std.proofs.Common.{inl, inr, arith}
 use Rattle.theory.specs.Limits.{readings_most}
 use Rattle.theory.specs.BoundLaws.{known, not_e, imp_by, imp_use, lt_or_ge, all4_i, all4_e, all4_not, imp_not, first_found, first_least}
 use Rattle.theory.specs.Relation.{Rel, WellFormed, Settled, round, rounds}
-use Rattle.theory.specs.RelationLaws.{turned, pair_small, round_within, round_wf, rounds_wf, within_settled, settled_unchanged, unchanged_settled}
+use Rattle.theory.proofs.RelationLaws.{turned, pair_small, round_within, round_wf, rounds_wf, within_settled, settled_unchanged, unchanged_settled}
 use Rattle.theory.specs.Reading.{pairs}
-use Rattle.theory.specs.ReadingLaws.{pairs_lt}
+use Rattle.theory.proofs.ReadingLaws.{pairs_lt}
 use Rattle.theory.specs.Settling.{stable, steps, Settles, Unfinished}
 
 -- the test of a round that changes nothing

@@ -1,0 +1,10 @@
+pub mod RelationLaws
+pub mod ReadingLaws
+pub mod RowsLaws
+pub mod Interval
+pub mod SettlingLaws
+pub mod ChoiceLaws
+pub mod StrikeLaws
+pub mod AgreeLaws
+pub mod Theorems
+pub mod Examples
