@@ -40,8 +40,10 @@ pair_struck {n} {t} {u} {i} {j} {a} {b} s = record {
         (eqb→eq k i (and_l (eqb k i) _ v), eqb→eq l j (and_l (eqb l j) _ w), eqb→eq c a (and_l (eqb c a) _ x), eqb→eq d b (and_r (eqb c a) _ x))
 
     to : (k l c d : ℕ) → OfPair i j a b k l c d → T (pair_and_mirror i j a b k l c d)
-    to k l c d (inl p) = unfold pair_and_mirror either in or_l (one_pair i j a b k l c d) _ (one-i i j a b k l c d p.0 p.1 p.2 p.3)
-    to k l c d (inr p) = unfold pair_and_mirror either in or_r (one_pair i j a b k l c d) _ (one-i j i b a k l c d p.0 p.1 p.3 p.2)
+    to k l c d v = unfold pair_and_mirror either in elim v [
+      | inl p ↦ or_l (one_pair i j a b k l c d) _ (one-i i j a b k l c d p.0 p.1 p.2 p.3)
+      | inr p ↦ or_r (one_pair i j a b k l c d) _ (one-i j i b a k l c d p.0 p.1 p.3 p.2)
+    ]
 
     from : (k l c d : ℕ) → T (pair_and_mirror i j a b k l c d) → OfPair i j a b k l c d
     from k l c d v = unfold pair_and_mirror either in elim (or_e (one_pair i j a b k l c d) (one_pair j i b a k l c d) v) [

@@ -81,6 +81,10 @@ module _ {n : ℕ} {size : ℕ → ℕ} {R : Rel} (w : WellFormed n size R) (few
       fields : moved ≡ moved_fields n (rounds n r R)
       fields = d.fields ∙ agree_moved n (rel n t) (rounds n r R) (holds-state e)
 
+  -- the round back, where the one out changed something
+  pub turn_back : {r : ℕ} {out back : List ℕ} {moved again : ℕ} → Turn n R r out moved → (moved ≡ 0 → ⊥) → RoundDone n out back again → Turn n R (r + 1) back again
+  turn_back f d e = turn f.next (omega (arith, f.moving d)) e
+
   -- where a round changes nothing, both states are the same words
   pub holds-still : {r : ℕ} {t : List ℕ} → steps n R ≤ r → r ≤ steps n R → Holds n R (r + 1) t → Holds n R r t
   unfolding rounds

@@ -1,8 +1,6 @@
 -- `nothing_left` meets its contract: the rows below a are 0, and a row that is not 0 has a bit.
-use borrow.Author.Rules.{rules}
 use Prim.Native.Nat.{◌-◌}
-use native.Mathlib.Omega.{arith}
-use Rattle.settle.proofs.Emptiness.{NoneBelow, none_start, none_more, cell_none, cell_some}
+use Rattle.settle.proofs.Emptiness.{NoneBelow}
 use Rattle.settle.proofs.nothing_left.Given as goal
 
 abbrev pub invariant-loop-a : goal.invariant-loop-a

@@ -1,8 +1,5 @@
 use borrow.Author.Rules.{rules}
-use Prim.Native.Nat.{◌-◌}
-use Rattle.table.specs.Layout.{rel}
-use Rattle.table.proofs.Search.{Passed, passed_none, passed_one, found, passed-all}
-use Rattle.settle.specs.Changes.{changed_above}
+use Rattle.table.proofs.Search.{passed_none, passed_one, found, passed-all}
 use Rattle.settle.proofs.Changing.{changed_below, row_changed, row_same}
 use Rattle.settle.proofs.changes.changed_in.Goals as goal
 

@@ -1,10 +1,8 @@
 -- `changed_in` meets its contract: no row passed would change.
-use borrow.Author.Rules.{rules}
 use Prim.Native.Nat.{◌-◌}
 use Rattle.table.specs.Layout.{rel}
-use Rattle.table.proofs.Search.{Passed, passed_none, passed_one, found, passed-all}
+use Rattle.table.proofs.Search.{Passed}
 use Rattle.settle.specs.Changes.{changed_above}
-use Rattle.settle.proofs.Changing.{changed_below, row_changed, row_same}
 use Rattle.settle.proofs.changes.changed_in.Given as goal
 
 abbrev pub invariant-loop-a : goal.invariant-loop-a

@@ -1,10 +1,8 @@
 -- `changed_number` meets its contract: no row of the cells passed would change.
-use borrow.Author.Rules.{rules}
 use Prim.Native.Nat.{◌-◌}
-use native.Mathlib.Omega.{arith}
 use lib.ListN.{length}
 use Rattle.table.specs.Layout.{rel}
-use Rattle.table.proofs.Rows.{Cells, cells_none, cells_more, cells_found, cells_all}
+use Rattle.table.proofs.Rows.{Cells}
 use Rattle.settle.specs.Changes.{changed_above}
 use Rattle.settle.proofs.changes.changed_number.Given as goal
 

@@ -1,5 +1,4 @@
 -- `first_changed` meets its contract: the first row that would change lies on or above the diagonal.
-use borrow.Author.Rules.{rules}
 use native.Mathlib.Omega.{arith}
 use Rattle.settle.proofs.Changing.{row-found, row_nowhere}
 use Rattle.settle.proofs.changes.first_changed.Goals as goal

@@ -1,8 +1,5 @@
-use borrow.Author.Rules.{rules}
-use Prim.Native.Nat.{◌-◌}
 use native.Mathlib.Omega.{arith}
-use lib.ListN.{length}
-use Rattle.settle.proofs.Moving.{Copied, copied_none, copied_more, copied_all}
+use Rattle.settle.proofs.Moving.{copied_none, copied_more, copied_all}
 use Rattle.settle.proofs.round.copy.Goals as goal
 
 pub loop-p-init : goal.loop-p-init

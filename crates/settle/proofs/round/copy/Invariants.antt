@@ -1,9 +1,7 @@
 -- `copy` meets its contract: the words below p are copied, and p runs to the end.
-use borrow.Author.Rules.{rules}
 use Prim.Native.Nat.{◌-◌}
-use native.Mathlib.Omega.{arith}
 use lib.ListN.{length}
-use Rattle.settle.proofs.Moving.{Copied, copied_none, copied_more, copied_all}
+use Rattle.settle.proofs.Moving.{Copied}
 use Rattle.settle.proofs.round.copy.Given as goal
 
 abbrev pub invariant-loop-p : goal.invariant-loop-p

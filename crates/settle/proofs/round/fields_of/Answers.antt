@@ -1,5 +1,4 @@
 -- `fields_of` meets its contract: a word with no bit gets two.
-use borrow.Author.Rules.{rules}
 use Rattle.settle.proofs.Marks.{two_bits}
 use Rattle.settle.proofs.round.fields_of.Goals as goal
 

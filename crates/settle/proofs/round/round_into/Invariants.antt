@@ -1,11 +1,7 @@
 -- `round_into` meets its contract: out starts as a copy, and the cells of the fields below i are done.
-use borrow.Author.Rules.{rules}
-use mathlib.Core.Path.{sym, ◌∙◌}
 use Prim.Native.Nat.{◌-◌}
-use native.Mathlib.Omega.{arith}
 use Rattle.table.specs.LayoutLaws.{Fit}
-use Rattle.settle.specs.RoundLaws.{lent_on}
-use Rattle.settle.proofs.Parts.{Going, OfFields, fields-start, fields_more, fields_end}
+use Rattle.settle.proofs.Parts.{Going, OfFields}
 use Rattle.settle.proofs.round.round_into.Given as goal
 
 abbrev pub invariant-loop-i : goal.invariant-loop-i

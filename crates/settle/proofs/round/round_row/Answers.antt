@@ -1,9 +1,6 @@
 use borrow.Author.Rules.{rules}
-use Prim.Native.Nat.{◌-◌}
-use lib.Dec.{eqb}
-use borrow.Author.Tests.{eqb-true, not-false}
 use native.Mathlib.Omega.{arith}
-use Rattle.settle.proofs.Narrowing.{Kept, kept-start, kept_more, kept_end, kept_none}
+use Rattle.settle.proofs.Narrowing.{kept-start, kept_more, kept_end, kept_none}
 use Rattle.settle.proofs.round.round_row.Goals as goal
 
 pub loop-k-init : goal.loop-k-init
@@ -20,7 +17,7 @@ loop-k-preserved c =
 pub returns-else-w-ne0 : goal.returns-else-w-ne0
 returns-else-w-ne0 c =
     let w = c.loop-k.w in
-    kept_none _ _ _ _ _ _ w c.loop-k.invariant (eqb-true w 0 (not-false (eqb w 0) c.if-w-ne0.false-raw))
+    kept_none _ _ _ _ _ _ w c.loop-k.invariant c.if-w-ne0.false
 
 pub returns-after-loop-k : goal.returns-after-loop-k
 returns-after-loop-k c = kept_end _ _ _ _ _ _ _ c.loop-k.invariant (search rules)

@@ -1,10 +1,6 @@
 -- `round_row` meets its contract: w has the bits that lie in every composition so far.
-use borrow.Author.Rules.{rules}
 use Prim.Native.Nat.{◌-◌}
-use lib.Dec.{eqb}
-use borrow.Author.Tests.{eqb-true, not-false}
-use native.Mathlib.Omega.{arith}
-use Rattle.settle.proofs.Narrowing.{Kept, kept-start, kept_more, kept_end, kept_none}
+use Rattle.settle.proofs.Narrowing.{Kept}
 use Rattle.settle.proofs.round.round_row.Given as goal
 
 abbrev pub invariant-loop-k : goal.invariant-loop-k

@@ -1,10 +1,9 @@
-use borrow.Author.Rules.{rules}
 use mathlib.Core.Path.{◌∙◌}
 use Prim.Native.Nat.{◌-◌}
 use native.Mathlib.Omega.{arith}
 use lib.Bits.{and_le_r}
 use native.Mathlib.Nat.{pos_of_ne-zero}
-use Rattle.settle.proofs.Striking.{Striking, striking_start, striking_more, striking_end, low_small, pair_struck}
+use Rattle.settle.proofs.Striking.{striking_start, striking_more, striking_end, low_small, pair_struck}
 use Rattle.settle.proofs.round.strike_bits.Goals as goal
 
 pub loop-rest-init : goal.loop-rest-init
@@ -28,10 +27,7 @@ pub loop-rest-preserved : goal.loop-rest-preserved
 loop-rest-preserved c =
     let l = c.loop-rest in
     striking_more _ _ _ _ _ _ _ _ l.rest _ l.invariant (pos_of_ne-zero c.loop-rest-test.true)
-    c.lowest.ensures c.strike.auto.0 (pair_struck c.strike.ensures)
-
-pub shape_of-out : goal.shape_of-out
-shape_of-out c = c.loop-rest.invariant.long
+    c.lowest.ensures c.strike.auto.table (pair_struck c.strike.ensures)
 
 pub returns : goal.returns
 returns c = striking_end _ _ _ _ _ _ _ _ c.loop-rest.invariant c.loop-rest-test.false

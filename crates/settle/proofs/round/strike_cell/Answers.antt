@@ -1,8 +1,6 @@
-use borrow.Author.Rules.{rules}
-use Prim.Native.Nat.{◌-◌}
 use native.Mathlib.Omega.{arith}
 use Rattle.settle.specs.RoundLaws.{lent_on}
-use Rattle.settle.proofs.Parts.{Going, OfRows, rows_start, rows_more, rows_end}
+use Rattle.settle.proofs.Parts.{rows_start, rows_more, rows_end}
 use Rattle.settle.proofs.round.strike_cell.Goals as goal
 
 pub loop-a-init : goal.loop-a-init
@@ -17,10 +15,7 @@ pub loop-a-preserved : goal.loop-a-preserved
 loop-a-preserved c =
     let r = c.strike_row-fields in
     rows_more _ _ _ _ _ _ _ _ _ _ c.loop-a.invariant c.loop-a-test.true
-    r.auto.1.1.1.1.1.0 (omega (arith, r)) r.ensures
-
-pub shape_of-out : goal.shape_of-out
-shape_of-out c = c.loop-a.invariant.long
+    r.auto.out (omega (arith, r)) r.ensures
 
 pub returns : goal.returns
 returns c = rows_end _ _ _ _ _ _ _ _ c.loop-a.invariant c.loop-a-test.false

@@ -1,8 +1,6 @@
-use borrow.Author.Rules.{rules}
-use Prim.Native.Nat.{◌-◌, ◌≤◌}
 use native.Mathlib.Omega.{arith}
 use Rattle.settle.specs.RoundLaws.{lent_on}
-use Rattle.settle.proofs.Parts.{Going, OfCells, cells_start, cells_more, cells_end}
+use Rattle.settle.proofs.Parts.{cells_start, cells_more, cells_end}
 use Rattle.settle.proofs.round.strike_field.Goals as goal
 
 pub loop-j-init : goal.loop-j-init
@@ -18,12 +16,9 @@ loop-j-preserved c =
     let r = c.strike_moved-fields in
     let l = c.loop-j in (
       cells_more _ _ _ _ _ _ _ _ _ l.invariant.1 l.invariant.0 c.loop-j-test.true
-          r.auto.1.1.1.1.1.0 (omega (arith, r)) r.ensures,
+          r.auto.out (omega (arith, r)) r.ensures,
       omega (arith, l.invariant.1),
     )
-
-pub shape_of-out : goal.shape_of-out
-shape_of-out c = c.loop-j.invariant.0.long
 
 pub returns : goal.returns
 returns c = cells_end _ _ _ _ _ _ _ c.loop-j.invariant.0 c.loop-j-test.false

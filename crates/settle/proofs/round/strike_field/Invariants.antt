@@ -1,9 +1,6 @@
 -- `strike_field` meets its contract: the cells (i, k) with i ≤ k < j are done.
-use borrow.Author.Rules.{rules}
 use Prim.Native.Nat.{◌-◌, ◌≤◌}
-use native.Mathlib.Omega.{arith}
-use Rattle.settle.specs.RoundLaws.{lent_on}
-use Rattle.settle.proofs.Parts.{Going, OfCells, cells_start, cells_more, cells_end}
+use Rattle.settle.proofs.Parts.{Going, OfCells}
 use Rattle.settle.proofs.round.strike_field.Given as goal
 
 abbrev pub invariant-loop-j : goal.invariant-loop-j

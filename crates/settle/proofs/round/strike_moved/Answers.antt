@@ -1,5 +1,4 @@
 -- `strike_moved` meets its contract: between fields of which no cell changed there is nothing to strike.
-use borrow.Author.Rules.{rules}
 use native.Mathlib.Omega.{arith}
 use Rattle.settle.proofs.Marks.{cell_quiet}
 use Rattle.settle.proofs.round.strike_moved.Goals as goal

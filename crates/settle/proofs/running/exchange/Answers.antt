@@ -1,8 +1,5 @@
-use borrow.Author.Rules.{rules}
-use Prim.Native.Nat.{◌-◌}
 use native.Mathlib.Omega.{arith}
-use lib.ListN.{length}
-use Rattle.settle.proofs.Moving.{Exchanged, exchanged_none, exchanged_more, exchanged_all}
+use Rattle.settle.proofs.Moving.{exchanged_none, exchanged_more, exchanged_all}
 use Rattle.settle.proofs.running.exchange.Goals as goal
 
 pub loop-p-init : goal.loop-p-init
@@ -19,12 +16,6 @@ loop-p-smaller c = omega (arith, c.loop-p.invariant.long_x)
 
 pub loop-p-preserved : goal.loop-p-preserved
 loop-p-preserved c = exchanged_more _ _ _ _ _ c.loop-p.invariant c.loop-p-test.true
-
-pub shape_of-x : goal.shape_of-x
-shape_of-x c = c.loop-p.invariant.long_x
-
-pub shape_of-y : goal.shape_of-y
-shape_of-y c = c.loop-p.invariant.long_y
 
 pub returns : goal.returns
 returns c = exchanged_all _ _ _ _ _ c.loop-p.invariant c.loop-p-test.false

@@ -1,9 +1,7 @@
 -- `exchange` meets its contract: the words below p are exchanged, and p runs to the end.
-use borrow.Author.Rules.{rules}
 use Prim.Native.Nat.{◌-◌}
-use native.Mathlib.Omega.{arith}
 use lib.ListN.{length}
-use Rattle.settle.proofs.Moving.{Exchanged, exchanged_none, exchanged_more, exchanged_all}
+use Rattle.settle.proofs.Moving.{Exchanged}
 use Rattle.settle.proofs.running.exchange.Given as goal
 
 abbrev pub invariant-loop-p : goal.invariant-loop-p

@@ -1,11 +1,6 @@
 -- `run` meets its contract: the table holds the state after r rounds, none of which was idle; scratch takes the odd ones.
-use mathlib.Core.Path.{◌≡◌, sym, ◌∙◌}
-use Prim.Native.Nat.{◌+◌, ◌-◌, ◌≤◌}
-use native.Mathlib.Omega.{arith}
-use lib.ListN.{length}
-use Rattle.theory.specs.Settling.{steps}
-use Rattle.table.specs.Layout.{rel}
-use Rattle.settle.proofs.Turns.{Running, Turn, turn, holds_as, holds-lent, holds-quiet, holds-still, holds_on, running_start, ran_still, ran_out}
+use Prim.Native.Nat.{◌-◌}
+use Rattle.settle.proofs.Turns.{Running}
 use Rattle.settle.proofs.running.run.Given as goal
 
 abbrev pub invariant-loop-moved : goal.invariant-loop-moved
