@@ -1,5 +1,4 @@
 -- `calendar::answered` meets its contract: no day is the refusal 20, and any other number of them is the answer.
-use borrow.Author.Rules.{rules}
 use mathlib.Core.Path.{◌≡◌, ap}
 use mathlib.Core.List.{List, [], ◌∷◌}
 use Prim.Native.Nat.{ℕ}

@@ -1,14 +1,13 @@
-use borrow.Author.Rules.{rules}
-use mathlib.Core.Logic.{⊎_elim}
 use mathlib.Core.Path.{◌≡◌, subst, ◌∙◌}
-use Prim.Native.Nat.{ℕ, ◌-◌, ◌≤◌, ◌<◌}
+use Prim.Native.Nat.{ℕ, ◌≤◌, ◌<◌}
 use native.Mathlib.Numerals.{add-one}
 use native.Mathlib.Omega.{arith}
-use lib.ListN.{length, take}
+use lib.ListN.{length}
 use Rattle.calendar.specs.DateText.{dates_most}
 use Rattle.calendar.specs.DaysFound.{held}
 use Rattle.calendar.proofs.Carry.{Carried, carry_start, carry_under, carry_over, carry_same, carry_end}
 use Rattle.calendar.proofs.found.with_day.Goals as goal
+use Rattle.calendar.proofs.found.with_day.Goals.{then-carried-here-2, else-carried-here-2}
 
 over : {x y : ℕ} → y ≤ x → (x ≡ y → ⊥) → y < x
 over h n = omega arith
@@ -29,10 +28,10 @@ loop-p-preserved c =
     let l = c.loop-p in
     let h : l.p < length (held c.args.found) = omega (arith, c.requires.holds.count) in
     rw add-one
-    (⊎_elim
-    (λ w. rw (w.1, w.2) (carry_under l.invariant h w.0.taken))
-    (λ w. rw (w.1, w.2) (carry_over l.invariant h (over w.0.left c.if-carried-here.false)))
-    c.if-carried-here-2.branch)
+    (elim c.if-carried-here-2.branch [
+      | then-carried-here-2 w ↦ rw (w.days-is, w.carried-is) (carry_under l.invariant h w.if-carried-here-2.true)
+      | else-carried-here-2 w ↦ rw (w.days-is, w.carried-is) (carry_over l.invariant h (over w.if-carried-here-2.false c.if-carried-here.false))
+    ])
 
 pub returns : goal.returns
 returns c =

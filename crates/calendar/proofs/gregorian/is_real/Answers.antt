@@ -1,5 +1,4 @@
 -- `calendar::gregorian::is_real` meets its contract: each way through its tests leaves what the definition has there.
-use borrow.Author.Rules.{rules}
 use borrow.Author.Tests.{le-leb, lt-leb}
 use Rattle.calendar.specs.Calendar.{real}
 use Rattle.calendar.proofs.gregorian.is_real.Goals as goal

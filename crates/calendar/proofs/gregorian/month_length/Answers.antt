@@ -1,17 +1,12 @@
 -- `calendar::gregorian::month_length` meets its contract: each arm gives what the list of lengths has at its months.
-use borrow.Author.Rules.{rules}
-use mathlib.Core.Logic.{⊎_elim, inl, inr}
+use mathlib.Core.Logic.{◌⊎◌, ⊎_elim}
 use mathlib.Core.Path.{◌≡◌, sym}
-use Prim.Native.Nat.{ℕ, suc, ◌≤◌}
+use Prim.Native.Nat.{◌≤◌}
 use native.Mathlib.Omega.{arith}
 use Rattle.theory.specs.BoundLaws.{lt_or_ge}
 use Rattle.calendar.specs.Calendar.{months, month_length}
 use Rattle.calendar.specs.CalendarLaws.{month_over}
 use Rattle.calendar.proofs.gregorian.month_length.Goals as goal
-
--- a month from k on that is not k
-past : {m : ℕ} (k : ℕ) → k ≤ m → (m ≡ k → ⊥) → suc k ≤ m
-past k h n = omega arith
 
 pub returns-then-is_leap : goal.returns-then-is_leap
 unfolding month_length months
@@ -33,28 +28,20 @@ returns-in_default c =
 
 -- past the eighth month, and none of those named: past the twelfth
 pub returns-in_default-2 : goal.returns-in_default-2
-returns-in_default-2 c =
-    let a = c.args in
-    let r = c.in-1-to-12.in-1-to-12-own.rest in
-    let ten = past 9 c.in-1-to-12.if-m-lt9-own.false (λ e. r.0.1 (inr (inr (inl e)))) in
-    let eleven = past 10 ten (λ e. r.1 (inr (inr (inr (inl e))))) in
-    let twelve = past 11 eleven (λ e. r.0.1 (inr (inr (inr e)))) in
-    sym (month_over a.y a.m (past 12 twelve (λ e. r.1 (inr (inr (inr (inr e)))))))
+returns-in_default-2 c = sym (month_over c.args.y c.args.m (grind arith))
 
 pub returns-in-1-to-12 : goal.returns-in-1-to-12
 unfolding month_length months
-returns-in-1-to-12 c = ⊎_elim (λ e. rw e) (⊎_elim (λ e. rw e) (⊎_elim (λ e. rw e) (⊎_elim (λ e. rw e) (λ e. rw e)))) c.in-1-to-12.in-1-to-12-own.keys3
+returns-in-1-to-12 c =
+    let m = c.args.m in
+    let h : (m ≡ 1) ⊎ (m ≡ 3) ⊎ (m ≡ 5) ⊎ (m ≡ 10) ⊎ (m ≡ 12) = assumption c in
+    ⊎_elim (λ e. rw e) (⊎_elim (λ e. rw e) (⊎_elim (λ e. rw e) (⊎_elim (λ e. rw e) (λ e. rw e)))) h
 
 -- below the ninth month, and none of those named: July or August
 pub returns-in-1-to-12-2 : goal.returns-in-1-to-12-2
 unfolding month_length months
 returns-in-1-to-12-2 c =
-    let a = c.args in
-    let r = c.in-1-to-12.in-1-to-12-own.rest in
-    let two = past 1 c.in_default.if-m-lt1-own.false (λ e. r.1 (inl e)) in
-    let three = past 2 two (λ e. r.0.0.1 e) in
-    let four = past 3 three (λ e. r.1 (inr (inl e))) in
-    let five = past 4 four (λ e. r.0.1 (inl e)) in
-    let six = past 5 five (λ e. r.1 (inr (inr (inl e)))) in
-    let seven = past 6 six (λ e. r.0.1 (inr (inl e))) in
-    ⊎_elim (λ l. let e : a.m ≡ 7 = omega arith in rw e) (λ g. let e : a.m ≡ 8 = omega arith in rw e) (lt_or_ge a.m 8)
+    let m = c.args.m in
+    let from : 7 ≤ m = grind arith in
+    let upto : m ≤ 8 = grind arith in
+    ⊎_elim (λ l. let e : m ≡ 7 = omega arith in rw e) (λ g. let e : m ≡ 8 = omega arith in rw e) (lt_or_ge m 8)

@@ -1,14 +1,8 @@
 -- `calendar::gregorian::months_before` meets its contract: after k turns the sum is that of the k months before month k.
-use borrow.Author.Rules.{rules}
-use mathlib.Core.Path.{◌≡◌, refl, ap, ap₂, ◌∙◌}
-use Prim.Native.Nat.{ℕ, ◌+◌, ◌-◌, ◌≤◌}
-use native.Mathlib.Omega.{arith}
-use native.Mathlib.Nat.{le_antisymm}
-use native.Mathlib.Numerals.{add-one}
+use mathlib.Core.Path.{◌≡◌}
+use Prim.Native.Nat.{◌-◌, ◌≤◌}
 use Rattle.theory.specs.Bound.{sum}
-use Rattle.theory.specs.BoundLaws.{sum_last, sum_most}
-use Rattle.calendar.specs.Calendar.{months, month_length}
-use Rattle.calendar.specs.CalendarLaws.{month_most}
+use Rattle.calendar.specs.Calendar.{month_length}
 use Rattle.calendar.proofs.gregorian.months_before.Given as goal
 
 abbrev pub invariant-loop-k : goal.invariant-loop-k

@@ -1,5 +1,4 @@
 -- `calendar::gregorian::years_before` meets its contract: the formula gives the sum over the years of the century.
-use borrow.Author.Rules.{rules}
 use mathlib.Core.Path.{sym}
 use native.Mathlib.Omega.{arith}
 use Rattle.calendar.proofs.Years.{years_sum}

@@ -1,5 +1,4 @@
 -- `calendar::layout::digits_at` meets its contract: the second byte is looked at where the first is a digit.
-use borrow.Author.Rules.{rules}
 use Rattle.calendar.proofs.layout.digits_at.Goals as goal
 
 pub returns-then-is_digit : goal.returns-then-is_digit

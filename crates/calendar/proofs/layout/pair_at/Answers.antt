@@ -1,12 +1,11 @@
 -- `calendar::layout::pair_at` meets its contract: two bytes less 48 each, as in the definition, and small enough.
-use borrow.Author.Rules.{rules}
 use Prim.Native.Nat.{◌+◌}
 use native.Mathlib.Omega.{arith}
 use Rattle.calendar.specs.DateText.{pair_at}
 use Rattle.calendar.proofs.layout.pair_at.Goals as goal
 
 pub overflow_mul-result : goal.overflow_mul-result
-overflow_mul-result c = omega (arith, c.value.ensures, c.shared_slice_known-2-1.given c.args.i)
+overflow_mul-result c = omega (arith, c.value.ensures, c.type_inv.text c.args.i)
 
 pub overflow_add-result : goal.overflow_add-result
 overflow_add-result c =
@@ -15,8 +14,8 @@ overflow_add-result c =
       arith,
       c.value.ensures,
       c.value-2.ensures,
-      c.shared_slice_known-3-1.given a.i,
-      c.shared_slice_known-3-1.given (a.i + 1),
+      c.type_inv.text a.i,
+      c.type_inv.text (a.i + 1),
     )
 
 pub returns : goal.returns

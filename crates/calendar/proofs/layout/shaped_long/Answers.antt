@@ -1,9 +1,13 @@
 -- `calendar::layout::shaped_long` meets its contract: each way through its tests leaves what the definition has there.
-use borrow.Author.Tests.{ne_eqb, le-leb, lt-leb, not-true, not-false}
+use borrow.Author.Tests.{ne_eqb, le-leb, lt-leb}
 use mathlib.Core.Path.{◌≡◌, sym, ◌∙◌}
-use mathlib.Core.Bool.{true}
+use mathlib.Core.Bool.{Bool, true, ◌&&◌}
+use mathlib.Core.List.{List}
+use Prim.Native.Nat.{ℕ}
+use lib.ListN.{length, get_or}
+use Rattle.theory.specs.Bound.{all}
 use native.Mathlib.Omega.{arith}
-use Rattle.calendar.specs.DateText.{date_length, short_length, separator, fits_at, laid_out, shaped_long}
+use Rattle.calendar.specs.DateText.{date_length, short_length, separator, fits_at, laid_out, digit, shaped_long}
 use Rattle.calendar.specs.WritingLaws.{two_more}
 use Rattle.calendar.proofs.Laid.{passed, pair_out, front_out, long_out, long_in}
 use Rattle.calendar.proofs.layout.shaped_long.Goals as goal
@@ -16,33 +20,37 @@ pub front_fits-requires : goal.front_fits-requires
 front_fits-requires c = omega (arith, c.if-text-ne-DATE_LENGTH.false)
 
 pub returns-then-not-front_fits : goal.returns-then-not-front_fits
-returns-then-not-front_fits c = long_out separator _ (front_out date_length (fits_at separator _) short_length (omega arith) (sym c.front_fits.ensures ∙ not-true _ c.if-not-front_fits.true-raw))
+returns-then-not-front_fits c = long_out separator _ (front_out date_length (fits_at separator _) short_length (omega arith) (sym c.front_fits.ensures ∙ c.if-not-front_fits.true))
 
 pub digits_at-requires : goal.digits_at-requires
 digits_at-requires c = omega (arith, c.if-text-ne-DATE_LENGTH.false)
 
 pub returns-then-not-digits_at : goal.returns-then-not-digits_at
 unfolding fits_at
-returns-then-not-digits_at c = long_out separator _ (pair_out date_length (fits_at separator c.args.text.now) 8 (omega arith) (sym c.digits_at.ensures ∙ not-true _ c.if-not-digits_at.true-raw))
+returns-then-not-digits_at c = long_out separator _ (pair_out date_length (fits_at separator c.args.text.now) 8 (omega arith) (sym c.digits_at.ensures ∙ c.if-not-digits_at.true))
 
 pub year_in-y-requires : goal.year_in-y-requires
 year_in-y-requires c = omega (arith, c.if-text-ne-DATE_LENGTH.false)
 
 -- past the tests the text is laid out
-laid : (c : goal.Else-not-digits_at) → laid_out separator date_length c.args.text.now ≡ true
+laid : (text : List ℕ) {a b : Bool} → length text ≡ date_length → a ≡ all short_length (fits_at separator text) → a ≡ true → b ≡ (digit (get_or text 8 0) && digit (get_or text 9 0)) → b ≡ true → laid_out separator date_length text ≡ true
 unfolding fits_at
-laid c =
-    let two = c in
-    let text = two.before.before.before.before.args.text.now in
-    long_in separator text two.before.before.if1.false
-    (two_more short_length (fits_at separator text)
-    (passed two.before.front_fits.ensures (not-false _ two.if2.false))
-    (passed c.digits_at.ensures (not-false _ c.if-not-digits_at.false-raw)))
+laid text e f g h i = long_in separator text e (two_more short_length (fits_at separator text) (passed f g) (passed h i))
 
 pub returns-then-y-ge-FIRST_YEAR : goal.returns-then-y-ge-FIRST_YEAR
 unfolding shaped_long
-returns-then-y-ge-FIRST_YEAR c = rw (laid c, ← c.year_in-y.ensures, le-leb 2000 _ c.if-y-ge-FIRST_YEAR.true)
+returns-then-y-ge-FIRST_YEAR c =
+    rw (
+      laid c.args.text.now c.if-text-ne-DATE_LENGTH.false c.front_fits.ensures c.if-not-front_fits.false c.digits_at.ensures c.if-not-digits_at.false,
+      ← c.year_in-y.ensures,
+      le-leb 2000 _ c.if-y-ge-FIRST_YEAR.true,
+    )
 
 pub returns-else-y-ge-FIRST_YEAR : goal.returns-else-y-ge-FIRST_YEAR
 unfolding shaped_long
-returns-else-y-ge-FIRST_YEAR c = rw (laid c, ← c.year_in-y.ensures, lt-leb 2000 _ c.if-y-ge-FIRST_YEAR.false)
+returns-else-y-ge-FIRST_YEAR c =
+    rw (
+      laid c.args.text.now c.if-text-ne-DATE_LENGTH.false c.front_fits.ensures c.if-not-front_fits.false c.digits_at.ensures c.if-not-digits_at.false,
+      ← c.year_in-y.ensures,
+      lt-leb 2000 _ c.if-y-ge-FIRST_YEAR.false,
+    )

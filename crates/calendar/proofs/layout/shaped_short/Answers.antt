@@ -1,5 +1,4 @@
 -- `calendar::layout::shaped_short` meets its contract: eight bytes have no place but those of the front.
-use borrow.Author.Rules.{rules}
 use borrow.Author.Tests.{eq-eqb}
 use Rattle.calendar.specs.DateText.{short_length, laid_out}
 use Rattle.calendar.proofs.layout.shaped_short.Goals as goal
