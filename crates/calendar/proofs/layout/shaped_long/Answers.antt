@@ -33,7 +33,10 @@ pub year_in-y-requires : goal.year_in-y-requires
 year_in-y-requires c = omega (arith, c.if-text-ne-DATE_LENGTH.false)
 
 -- past the tests the text is laid out
-laid : (text : List ℕ) {a b : Bool} → length text ≡ date_length → a ≡ all short_length (fits_at separator text) → a ≡ true → b ≡ (digit (get_or text 8 0) && digit (get_or text 9 0)) → b ≡ true → laid_out separator date_length text ≡ true
+laid : (text : List ℕ) {a b : Bool} → length text ≡ date_length
+    → a ≡ all short_length (fits_at separator text) → a ≡ true
+    → b ≡ (digit (get_or text 8 0) && digit (get_or text 9 0)) → b ≡ true
+    → laid_out separator date_length text ≡ true
 unfolding fits_at
 laid text e f g h i = long_in separator text e (two_more short_length (fits_at separator text) (passed f g) (passed h i))
 
