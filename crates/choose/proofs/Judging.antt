@@ -1,12 +1,11 @@
 -- What the checks say one after the other.
 use mathlib.Core.Path.{◌≡◌, refl, sym, ap, ◌∙◌, subst}
 use mathlib.Core.Bool.{Bool, true, false, cond, and-false}
-use mathlib.Core.List.{List, [], ◌∷◌, ◌++◌, append-nil}
+use mathlib.Core.List.{List, [], ◌∷◌}
 use Prim.Native.Nat.{ℕ, ◌<◌}
 use native.Mathlib.Omega.{arith}
 use lib.Dec.{ltb}
-use lib.ListN.{length, take, drop}
-use lib.Seq.{take-length, drop-length}
+use lib.ListN.{length}
 use borrow.Author.Tests.{ne_eqb}
 use Rattle.theory.specs.Bound.{first}
 use Rattle.theory.specs.Relation.{Rel}
@@ -84,9 +83,6 @@ module _ (n : ℕ) (size : ℕ → ℕ) (R : Rel) {x : Rows} (e : said_rows x �
   rows-refused q h = refused_as (ltb (first_broken n size R) (search_rows n)) (search_row n (first_broken n size R)) q (sym (ap said_rows h) ∙ e)
 
 -- the fixed choices, copied into the answer
-
-pub copied : (fixed before after : List ℕ) → length fixed ≡ length before → after ≡ take (length fixed) fixed ++ drop (length fixed) before → after ≡ fixed
-copied fixed before after e c = c ∙ rw (take-length, e, drop-length, append-nil)
 
 pub ready_copied : (sizes t fixed x : List ℕ) (room : ℕ) → x ≡ fixed → Ready sizes t fixed room × Agreed sizes t fixed → Ready sizes t x (length x) × Agreed sizes t x
 ready_copied sizes t fixed x room e h = subst (λ (y : List ℕ). Ready sizes t y (length y) × Agreed sizes t y) (sym e) (subst (λ (r : ℕ). Ready sizes t fixed r) (h.0.lent ∙ sym h.0.held) h.0, h.1)

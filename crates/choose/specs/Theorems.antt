@@ -37,7 +37,7 @@ pub one_answer : {sizes t fixed before after after' : List ℕ} {r r' : Choice} 
 one_answer {sizes} {t} {fixed} {before} {after} {after'} {r} {r'} p q = (choice_determined r r' (p.says ∙ sym q.says), same r r' p q (p.says ∙ sym q.says))
   where
     same : (r r' : Choice) → Chooses sizes t fixed before after r → Chooses sizes t fixed before after' r' → said_choice r ≡ said_choice r' → after ≡ after'
-    same Chosen Chosen p q e = ext_get_or 0 after after' (p.long ∙ sym q.long) (λ i h. theory.first-is-one p.holds q.holds i (omega (arith, p.long, (chosen-passed p).0.lent)))
+    same Chosen Chosen p q e = ext_get_or 0 after after' (p.long ∙ sym q.long) (λ i h. theory.first_is_one p.holds q.holds i (omega (arith, p.long, (chosen-passed p).0.lent)))
     same Chosen (Refused k) p q e = absurd (no_result k (sym e))
     same (Refused k) Chosen p q e = absurd (no_result k e)
     same (Refused k) (Refused l) p q e = p.holds ∙ sym q.holds
@@ -58,7 +58,7 @@ module _ {sizes t fixed before after : List ℕ} (p : Chooses sizes t fixed befo
   pub chosen_walked : Walked (length sizes) by_number (size_of sizes) (rel_of sizes t) (choice_of fixed) (choice_of after) (length sizes)
   chosen_walked q h =
       same q h
-      ∙ (walk_walked n by_number (size_of sizes) (rel_of sizes t) (choice_of fixed) (theory.field-order n) n (le_refl n) q h
+      ∙ (walk_walked n by_number (size_of sizes) (rel_of sizes t) (choice_of fixed) (theory.field_order n) n (le_refl n) q h
       ∙ first_same (size_of sizes q) _ _ (λ b l. left_same n by_number (rel_of sizes t) (choice_of fixed) x (choice_of after) q b (λ k m. sym (same k (omega arith)))))
     where
       n : ℕ
@@ -70,17 +70,17 @@ module _ {sizes t fixed before after : List ℕ} (p : Chooses sizes t fixed befo
       same : (i : ℕ) → i < length sizes → choice_of after i ≡ x i
       same i h =
           let a = chosen-passed p in
-          theory.first-is-one p.holds (theory.first-exists a.0.good.formed a.0.settled a.0.filled a.0.whole (choice_of fixed) a.1) i h
+          theory.first_is_one p.holds (theory.first_exists a.0.good.formed a.0.settled a.0.filled a.0.whole (choice_of fixed) a.1) i h
 
   -- and at every field of the walk at least one reading is left to take
   pub chosen-left : (f : ℕ) → f < length sizes → (b : ℕ) × (b < size_of sizes f) × T (left (length sizes) by_number (rel_of sizes t) (choice_of fixed) (choice_of after) f b)
   chosen-left f h =
       let a = chosen-passed p in
-      theory.walk-finds-a-reading a.0.good.formed a.0.settled a.0.filled a.0.whole (choice_of fixed) a.1 (choice_of after) f h (λ q l. chosen_walked q (omega arith))
+      theory.walk_finds_a_reading a.0.good.formed a.0.settled a.0.filled a.0.whole (choice_of fixed) a.1 (choice_of after) f h (λ q l. chosen_walked q (omega arith))
 
   -- "When the table is the settled form of an opening table, these are also the opening table's full readings."
   pub chosen_of_opening : (opening : List ℕ) → GoodTable sizes opening → Largest (length sizes) (rel_of sizes opening) (rel_of sizes t) → FirstOf sizes opening fixed after
-  chosen_of_opening opening g l = (theory.first-of-opening g.formed l by_number (choice_of fixed) (choice_of after)).1 p.holds
+  chosen_of_opening opening g l = (theory.first_of_opening g.formed l by_number (choice_of fixed) (choice_of after)).1 p.holds
 
 module _ {sizes t fixed before after : List ℕ} {r : Choice} (p : Chooses sizes t fixed before after r) where
   -- 3. Demand 3: with its premises choosing never refuses, and at every field of its walk at least one reading is left to take
@@ -122,6 +122,6 @@ module _ {sizes t fixed before after : List ℕ} {r : Choice} (p : Chooses sizes
         | inl h ↦ ap (λ (s : Said). s.state) said ∙ rw (lt-ltb _ _ h)
         | inr h ↦
             let ok : Agreed sizes t fixed = (no_clash a.good.formed (choice_of fixed)).0 (omega (arith, clash-le (length sizes) (rel_of sizes t) (choice_of fixed))) in
-            let f = theory.first-exists a.good.formed a.settled a.filled a.whole (choice_of fixed) ok in
+            let f = theory.first_exists a.good.formed a.settled a.filled a.whole (choice_of fixed) ok in
             absurd (d _ f.full f.keeps)
       ]

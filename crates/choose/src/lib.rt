@@ -28,7 +28,7 @@ pub fn choose(sizes: &[u8], table: &[u32], fixed: &[u8], answer: &mut [u8]) -> C
     if let Shaped::Refused(r) = found {
         return Choice::Refused(r);
     }
-    bytes::copy(fixed, answer);
+    answer.copy_from_slice(fixed);
     take_lowest(sizes, table, answer);
     Choice::Chosen
 }
