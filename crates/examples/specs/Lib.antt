@@ -3,4 +3,3 @@ pub mod Packed
 pub mod PackedLaws
 pub mod Trial
 pub mod TrialLaws
-pub mod StarredLaws

@@ -172,9 +172,9 @@ module _ (sizes t : List ℕ) (g : GoodTable sizes t) (k : ℕ) (M : Rel) (e : A
       ap (λ (p : ℕ). cond (ltb p (search_rows n)) (says q (row_place (search_row n p))) rest)
       (first_same (search_rows n) _ _ (λ p h. let r = search_in n p h in broken_same n k (size_of sizes) M (rel n t) e inM (pair_small g.formed) (search_row n p).i (search_row n p).j (search_row n p).a r.first r.second))
 
-  rows_in : (row : List ℕ) → T (rows_in sizes k M row) → rows_says sizes t ≡ says 0 row
+  rows_in_lem : (row : List ℕ) → T (rows_in sizes k M row) → rows_says sizes t ≡ says 0 row
   unfolding rows_in rows_says
-  rows_in row u = after_good_shape sizes t g _ ∙ (sym (broken-says 0 (says 0 [])) ∙ same_said_e _ _ u)
+  rows_in_lem row u = after_good_shape sizes t g _ ∙ (sym (broken-says 0 (says 0 [])) ∙ same_said_e _ _ u)
 
   -- and settled
   module _ (s : Settled (length sizes) (rel (length sizes) t)) where
@@ -228,7 +228,7 @@ module _ (sizes t : List ℕ) (g : GoodTable sizes t) (k : ℕ) (M : Rel) (e : A
         record {
           keeps = λ i hi. (keeps-in i hi _ (field i hi)).0;
           counts = λ i hi. kept_is_the_count sizes t i g hi ∙ ap (λ (q : ℕ). says 0 (q ∷ [])) (keeps-in i hi _ (field i hi)).1;
-          rows = rows_in c.broken_after (and_l rows _ u2);
+          rows = rows_in_lem c.broken_after (and_l rows _ u2);
           choices = every_e (choosing_in sizes k M) (Chooses sizes t) choosing-in c.choices (and_r rows _ u2);
         }
 
@@ -255,9 +255,9 @@ module _ (c : Case) (sizes t : List ℕ) (g : GoodTable sizes t) (k w : ℕ) (e 
         result = λ budget h. let enough : min (steps n R) budget ≡ steps n R = omega arith in rw (good-table lent budget, enough) result;
       }
 
-  opened_in : gaps_of c.opening ≡ c.gaps → T (opened_in c sizes k w) → Opens c sizes t
+  opened_in_lem : gaps_of c.opening ≡ c.gaps → T (opened_in c sizes k w) → Opens c sizes t
   unfolding opened_in
-  opened_in gaps u =
+  opened_in_lem gaps u =
       let n = length sizes in
       let N = unpacked n k w in
       let reads = same (some_full n (size_of sizes) N n (λ f. 0)) c.readable in
@@ -267,7 +267,7 @@ module _ (c : Case) (sizes t : List ℕ) (g : GoodTable sizes t) (k w : ℕ) (e 
       record {
         gaps = gaps;
         readable = reads_in g.formed e c.readable (and_l reads _ u);
-        rows = rows_in sizes t g k N e (unpacked-inside n k w) c.broken_before (and_l rows _ u1);
+        rows = rows_in_lem sizes t g k N e (unpacked-inside n k w) c.broken_before (and_l rows _ u1);
         settles = settling-in (takes-steps g.formed k w e c.r (and_l (takes n k c.r w) _ u2)) (and_r (takes n k c.r w) _ u2);
       }
 
@@ -285,7 +285,7 @@ case_in_lem c sizes k u =
     let formed : WellFormed n (size_of sizes) O = opened-formed n (size_of sizes) (rule c.opening) (λ i h. (good.each i h).1) in
     let fit : (f : ℕ) → f < n → size_of sizes f ≤ k = λ f h. leb→le (size_of sizes f) k (all_e n fits (and_l (all n fits) _ u1) f h) in
     let inside : Inside n k O = λ i j a b hi hj t. let l = formed.inside i j a b hi hj t in (omega (arith, fit i hi), omega (arith, fit j hj)) in
-    opened_in c sizes (words n O) (words-good sizes good O formed) k (packed n k O)
+    opened_in_lem c sizes (words n O) (words-good sizes good O formed) k (packed n k O)
     (agree_trans n (unpacked n k (packed n k O)) O (rel n (words n O)) (unpacked-packed n k O inside) (words-stand sizes good O formed))
     (same_list_e _ _ (and_l gaps _ u2)) (and_r gaps _ u2)
 
