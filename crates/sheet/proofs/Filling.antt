@@ -7,8 +7,6 @@ use native.Mathlib.Omega.{arith}
 use lib.ListN.{length, get_or, set, take, drop, replicate, length-append, length-set}
 use lib.Seq.{length-take-le, take-suc-set, take_at, take-append-add, drop-append-add}
 use borrow.Rule.Slice.PartMut.{mid_of, put_mid, same_len_mid, mid_len}
-use types.Run.{OneOf, miss}
-use denote.Enum.Declared.{tag_of}
 use Rattle.theory.specs.Limits.{readings_most}
 use Rattle.calendar.specs.DateText.{date_length, short_length, separator}
 use Rattle.calendar.specs.DateAnswers.{padded}
@@ -22,7 +20,6 @@ use Rattle.scan.specs.declared.mark.Mark.TheVariants.{Date, Short, Days, Gap, St
 use Rattle.scan.specs.declared.field.FieldRead.{FieldRead}
 use Rattle.scan.specs.declared.step.Verdict.{Verdict}
 use Rattle.scan.specs.declared.step.Verdict.TheVariants.{Field, Rule, Stop}
-use Rattle.scan.specs.contracts.step.Verdict.{the_type}
 use Rattle.sheet.specs.Opening.{days_of}
 use Rattle.sheet.specs.BufferLaws.{Few, few_rest, good_few, padded-long}
 use Rattle.sheet.specs.Writing.{days_at, records, fields, Judged, UpTo, FieldsTo}
@@ -102,7 +99,7 @@ module _ {sheet sizes days : List ℕ} {i at : ℕ} (f : FieldsTo sheet sizes da
     listed = reads.days ∙ ap (λ (s : Step). padded readings_most (Rattle.scan.specs.Judging.days_in s)) (here em)
 
     few : length next.days ≤ readings_most
-    few = (Rattle.scan.specs.WholeLaws.step-good separator (told f.before) sheet at next.days next.next next.step).0.few
+    few = (Rattle.scan.specs.WholeLaws.step_good separator (told f.before) sheet at next.days next.next next.step).0.few
 
     pub days-long : length r.days ≡ readings_most
     days-long = ap length listed ∙ padded-long readings_most next.days few
@@ -163,13 +160,13 @@ fields_none j e = record {
 }
 
 -- where a field stands, the verdict is a field
-only_field : (v : Verdict) (k n : ℕ) → gist_of v ≡ adds k n → OneOf (1 ∷ 2 ∷ 3 ∷ []) (tag_of the_type v) → ⊥
-only_field (Field s t) k n e o = miss (1 ∷ 2 ∷ 3 ∷ []) 0 tt o
+only_field : (v : Verdict) (k n : ℕ) → gist_of v ≡ adds k n → ((s t : ℕ) → v ≡ Field s t → ⊥) → ⊥
+only_field (Field s t) k n e o = o s t refl
 only_field (Rule t) k n e o = let z : ◌≡◌ {A = ℕ} 0 1 = cc e in omega arith
 only_field Verdict.End k n e o = let z : ◌≡◌ {A = ℕ} 0 1 = cc e in omega arith
 only_field (Stop q) k n e o = let z : ◌≡◌ {A = ℕ} 0 1 = cc e in omega arith
 
-pub not_else : {sheet sizes days : List ℕ} {i at : ℕ} (f : FieldsTo sheet sizes days i at) (h : i < length sizes) {m : Mark} → m ≡ mark_of (number_at sheet at) → {r : FieldRead} → ReadsField (field_by separator m sheet at) r → OneOf (1 ∷ 2 ∷ 3 ∷ []) (tag_of the_type r.verdict) → ⊥
+pub not_else : {sheet sizes days : List ℕ} {i at : ℕ} (f : FieldsTo sheet sizes days i at) (h : i < length sizes) {m : Mark} → m ≡ mark_of (number_at sheet at) → {r : FieldRead} → ReadsField (field_by separator m sheet at) r → ((s t : ℕ) → r.verdict ≡ Field s t → ⊥) → ⊥
 not_else f h em {r} reads o = only_field r.verdict _ _ (judged f h em reads) o
 
 pub fields-all : {sheet sizes days : List ℕ} {i at : ℕ} → FieldsTo sheet sizes days i at → (n : ℕ) → i ≤ n → length sizes ≡ n → length sizes ≤ i → FieldsTo sheet sizes days n at

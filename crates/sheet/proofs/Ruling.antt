@@ -6,8 +6,6 @@ use Prim.Native.Nat.{ℕ, ◌+◌, ◌-◌, ◌*◌, ◌≤◌, ◌<◌}
 use native.Mathlib.Omega.{arith}
 use lib.Dec.{T, ltb, ltb→lt}
 use lib.ListN.{length, get_or, length-map, length-append}
-use types.Run.{OneOf, miss}
-use denote.Enum.Declared.{tag_of}
 use Rattle.theory.specs.Limits.{fields_most, readings_most}
 use Rattle.theory.specs.BoundLaws.{and_l, and_r}
 use Rattle.theory.specs.Relation.{Agree}
@@ -28,7 +26,6 @@ use Rattle.scan.specs.declared.mark.Mark.{Mark}
 use Rattle.scan.specs.declared.mark.Mark.TheVariants.{Date, Short, Days, Gap, Strike, End, Unknown}
 use Rattle.scan.specs.declared.record.Interval.{Interval}
 use Rattle.scan.specs.declared.record.Pair.{Pair}
-use Rattle.scan.specs.contracts.mark.Mark.{the_type}
 use Rattle.sheet.specs.Opening.{struck_by, outside, everything, opening, days_of}
 use Rattle.sheet.specs.Writing.{days_at, TwoFields, CellNarrowed, records, fields, Judged, FieldsTo, FieldsWritten, RulesTo}
 use Rattle.sheet.specs.OpeningLaws.{size_of_lem, good-sizes, everything_e}
@@ -280,23 +277,23 @@ module _ {sheet sizes days t : List ℕ} {at : ℕ} (r : RulesTo sheet sizes day
       let e = ap length (fields_field r.before d) ∙ length-append (fields_of r.before) (d ∷ []) in
       omega (arith, count_grows separator sheet (r.before ++ field d ∷ []) m (records sheet) v, e, ap length r.same)
 
-  pub rules_done : {m : Mark} → m ≡ mark_of (number_at sheet at) → OneOf (0 ∷ 1 ∷ 2 ∷ 5 ∷ 6 ∷ []) (tag_of the_type m) → r.before ≡ records sheet
-  rules_done {m} em o = go onward
+  pub rules_done : {m : Mark} → m ≡ mark_of (number_at sheet at) → (m ≡ Gap → ⊥) → (m ≡ Strike → ⊥) → r.before ≡ records sheet
+  rules_done {m} em g s = go onward
     where
       as-field : (q : Record) (k : ℕ) {d : List ℕ} → q ≡ field d → scan_on separator sheet (r.before ++ q ∷ []) k ≡ whole (records sheet) → ⊥
       as-field q k {d} e v = no_field d k (ap (λ (x : Record). scan_on separator sheet (r.before ++ x ∷ []) k) (sym e) ∙ v)
 
-      no_more : (x : Mark) → OneOf (0 ∷ 1 ∷ 2 ∷ 5 ∷ 6 ∷ []) (tag_of the_type x) → (q : Record) (k : ℕ) → by_mark separator x (told r.before) sheet at ≡ more q k → scan_on separator sheet (r.before ++ q ∷ []) k ≡ whole (records sheet) → ⊥
-      no_more Date y q k e v = as-field q k (date-stands separator date_length sheet at q k (adds_more (told r.before) at (date_at separator date_length sheet at) q k e).2).is v
-      no_more Short y q k e v = as-field q k (date-stands separator short_length sheet at q k (adds_more (told r.before) at (date_at separator short_length sheet at) q k e).2).is v
-      no_more Days y q k e v = as-field q k (days_stand sheet at q k (adds_more (told r.before) at (listAt sheet at) q k e).2).is v
-      no_more Gap y q k e v = miss (0 ∷ 1 ∷ 2 ∷ 5 ∷ 6 ∷ []) 3 tt y
-      no_more Strike y q k e v = miss (0 ∷ 1 ∷ 2 ∷ 5 ∷ 6 ∷ []) 4 tt y
-      no_more End y q k e v = end_no_more (told r.before).sizes sheet at q k e
-      no_more Unknown y q k e v = let z : ◌≡◌ {A = ℕ} 0 1 = cc e in omega arith
+      no_more : (x : Mark) → (x ≡ Gap → ⊥) → (x ≡ Strike → ⊥) → (q : Record) (k : ℕ) → by_mark separator x (told r.before) sheet at ≡ more q k → scan_on separator sheet (r.before ++ q ∷ []) k ≡ whole (records sheet) → ⊥
+      no_more Date g s q k e v = as-field q k (date-stands separator date_length sheet at q k (adds_more (told r.before) at (date_at separator date_length sheet at) q k e).2).is v
+      no_more Short g s q k e v = as-field q k (date-stands separator short_length sheet at q k (adds_more (told r.before) at (date_at separator short_length sheet at) q k e).2).is v
+      no_more Days g s q k e v = as-field q k (days_stand sheet at q k (adds_more (told r.before) at (listAt sheet at) q k e).2).is v
+      no_more Gap g s q k e v = g refl
+      no_more Strike g s q k e v = s refl
+      no_more End g s q k e v = end_no_more (told r.before).sizes sheet at q k e
+      no_more Unknown g s q k e v = let z : ◌≡◌ {A = ℕ} 0 1 = cc e in omega arith
 
       go : Going separator sheet r.before at (records sheet) → r.before ≡ records sheet
-      go (goes q k e v) = absurd (no_more m o q k (subst (λ (x : Mark). by_mark separator x (told r.before) sheet at ≡ more q k) (sym em) (step_more separator (told r.before) sheet at q k e).1) v)
+      go (goes q k e v) = absurd (no_more m g s q k (subst (λ (x : Mark). by_mark separator x (told r.before) sheet at ≡ more q k) (sym em) (step_more separator (told r.before) sheet at q k e).1) v)
       go (over e v) = v
 
   pub table-opened : Fit t → r.before ≡ records sheet → t ≡ words (length sizes) (opening (fields sheet) (records sheet))

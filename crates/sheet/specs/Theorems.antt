@@ -7,7 +7,7 @@ use Rattle.std.proofs.Math.ListN.{get_or, get_or-eq_default}
 use Rattle.std.proofs.lemmas.List.{length-map}
 use Rattle.refusal.specs.declared.Refusal.{Refusal}
 use Rattle.refusal.specs.declared.Refusal.TheVariants.{Short, Long}
-use Rattle.refusal.specs.Said.{Said, says}
+use Rattle.refusal.specs.Said.{Said}
 use Rattle.refusal.specs.RefusalLaws.{numbered}
 use Rattle.theory.specs.Limits.{fields_most, readings_most}
 use Rattle.theory.specs.BoundLaws.{all_e}
