@@ -21,24 +21,14 @@ pub fn fq_date(text: &[u8]) -> u64
 }
 
 // A sheet read into sizes, days and the opening table.
-pub fn fq_read(
-    sheet: &[u8],
-    sizes: &mut [u8],
-    days: &mut [u16],
-    table: &mut [u32],
-) -> u64
+pub fn fq_read(sheet: &[u8], sizes: &mut [u8], days: &mut [u16], table: &mut [u32]) -> u64
     ensures { PacksReading (reading separator sheet.now sizes.old days.old table.old) result sizes.new days.new table.new }
 {
     answers::opened(sheet::read_sheet(sheet, sizes, days, table))
 }
 
 // Settles the table within a budget of rounds.
-pub fn fq_settle(
-    sizes: &[u8],
-    table: &mut [u32],
-    scratch: &mut [u32],
-    budget: u64,
-) -> u64
+pub fn fq_settle(sizes: &[u8], table: &mut [u32], scratch: &mut [u32], budget: u64) -> u64
     ensures { PacksSettling sizes.now table.old scratch.old budget result table.new scratch.new }
 {
     answers::settling(settle::settle(sizes, table, scratch, budget))

@@ -1,0 +1,8 @@
+-- `fields::day` meets its contract: a day of two bytes fits.
+use borrow.Author.Rules.{rules}
+use Prim.Native.Nat.{◌+◌, ◌*◌}
+use native.Mathlib.Omega.{arith}
+use Rattle.listing.proofs.fields.day.Goals as goal
+
+pub overflow_cast-result : goal.overflow_cast-result
+overflow_cast-result c = omega (arith, c.shared_slice_known-1.given (c.args.i * 32 + c.args.a))
