@@ -1,5 +1,4 @@
 -- `fq_choose` meets its contract: what choosing says is packed, and its buffer is as choosing leaves it.
-use borrow.Author.Rules.{rules}
 use Rattle.capi.proofs.Packing.{choice_packed}
 use Rattle.capi.proofs.fq_choose.Goals as goal
 

@@ -1,5 +1,4 @@
 -- `fq_date` meets its contract: the days are packed as the text means them.
-use borrow.Author.Rules.{rules}
 use Rattle.calendar.specs.DateText.{separator}
 use Rattle.capi.proofs.Packing.{date-packed}
 use Rattle.capi.proofs.fq_date.Goals as goal

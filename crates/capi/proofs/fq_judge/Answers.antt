@@ -1,5 +1,4 @@
 -- `fq_judge` meets its contract: what judging says is packed.
-use borrow.Author.Rules.{rules}
 use Rattle.capi.specs.Packed.{as_rows}
 use Rattle.capi.proofs.Packing.{said_packed}
 use Rattle.capi.proofs.fq_judge.Goals as goal

@@ -1,5 +1,4 @@
 -- `fq_kept` meets its contract: what is said of the readings kept is packed.
-use borrow.Author.Rules.{rules}
 use Rattle.capi.specs.Packed.{as_values}
 use Rattle.capi.proofs.Packing.{said_packed}
 use Rattle.capi.proofs.fq_kept.Goals as goal

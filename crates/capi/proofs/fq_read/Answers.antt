@@ -1,5 +1,4 @@
 -- `fq_read` meets its contract: what reading says is packed, and its buffers are as reading leaves them.
-use borrow.Author.Rules.{rules}
 use Rattle.capi.specs.Packed.{as_values}
 use Rattle.capi.proofs.Packing.{said_packed}
 use Rattle.capi.proofs.fq_read.Goals as goal

@@ -1,5 +1,4 @@
 -- `fq_settle` meets its contract: what settling says is packed, and its buffers are as settling leaves them.
-use borrow.Author.Rules.{rules}
 use Rattle.capi.specs.Packed.{as_settling}
 use Rattle.capi.proofs.Packing.{said_packed}
 use Rattle.capi.proofs.fq_settle.Goals as goal

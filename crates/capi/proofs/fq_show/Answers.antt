@@ -1,5 +1,4 @@
 -- `fq_show` meets its contract: what is said of the cell is packed.
-use borrow.Author.Rules.{rules}
 use Rattle.capi.specs.Packed.{as_shown}
 use Rattle.capi.proofs.Packing.{said_packed}
 use Rattle.capi.proofs.fq_show.Goals as goal

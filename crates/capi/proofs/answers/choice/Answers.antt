@@ -1,5 +1,4 @@
 -- `choice` meets its contract, case by case.
-use borrow.Author.Rules.{rules}
 use mathlib.Core.Path.{refl}
 use Rattle.choose.specs.declared.Choice.{Choice}
 use Rattle.capi.specs.Packed.{as_values}

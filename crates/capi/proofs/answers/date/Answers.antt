@@ -1,5 +1,4 @@
 -- `date` meets its contract, case by case.
-use borrow.Author.Rules.{rules}
 use mathlib.Core.Path.{refl}
 use Rattle.calendar.specs.declared.DateAnswer.{DateAnswer}
 use Rattle.capi.specs.Packed.{as_days}

@@ -1,5 +1,4 @@
 -- `kept` meets its contract, case by case.
-use borrow.Author.Rules.{rules}
 use mathlib.Core.Path.{refl}
 use Rattle.judge.specs.declared.keeping.KeptCount.{KeptCount}
 use Rattle.capi.specs.Packed.{as_values}

@@ -1,5 +1,4 @@
 -- `opened` meets its contract, case by case.
-use borrow.Author.Rules.{rules}
 use mathlib.Core.Path.{refl}
 use Rattle.scan.specs.declared.Opened.{Opened}
 use Rattle.capi.specs.Packed.{as_values}

@@ -1,5 +1,4 @@
 -- `rows` meets its contract, case by case.
-use borrow.Author.Rules.{rules}
 use mathlib.Core.Path.{refl}
 use Rattle.judge.specs.declared.judging.Rows.{Rows}
 use Rattle.capi.specs.Packed.{as_rows}

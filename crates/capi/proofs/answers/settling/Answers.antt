@@ -1,5 +1,4 @@
 -- `settling` meets its contract, case by case.
-use borrow.Author.Rules.{rules}
 use mathlib.Core.Path.{refl}
 use Rattle.settle.specs.declared.Settling.{Settling}
 use Rattle.capi.specs.Packed.{as_settling}

@@ -1,5 +1,4 @@
 -- `shown` meets its contract, case by case.
-use borrow.Author.Rules.{rules}
 use mathlib.Core.Path.{refl}
 use Rattle.judge.specs.declared.showing.Shown.{Shown}
 use Rattle.capi.specs.Packed.{as_shown}

@@ -1,5 +1,4 @@
 -- `refused` meets its contract: the refusal in numbers, packed.
-use borrow.Author.Rules.{rules}
 use Rattle.capi.proofs.Packing.{printed_packed}
 use Rattle.capi.proofs.number.refused.Goals as goal
 

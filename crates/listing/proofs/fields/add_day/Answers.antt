@@ -1,5 +1,4 @@
 -- `fields::add_day` meets its contract: one day is written, or none.
-use borrow.Author.Rules.{rules}
 use mathlib.Core.List.{List, [], ◌∷◌}
 use mathlib.Core.Bool.{Bool, cond}
 use mathlib.Core.Path.{◌≡◌, sym, ap}

@@ -1,10 +1,9 @@
-use borrow.Author.Rules.{rules}
 use mathlib.Core.List.{[], ◌∷◌}
 use mathlib.Core.Path.{ap}
-use Prim.Native.Nat.{ℕ, ◌-◌}
+use Prim.Native.Nat.{ℕ}
 use native.Mathlib.Omega.{arith}
 use lib.ListN.{length, get_or}
-use Rattle.text.specs.JoinedLaws.{Joining, joining_start, joining_room, joining_more, joining_end}
+use Rattle.text.specs.JoinedLaws.{joining_start, joining_room, joining_more, joining_end}
 use Rattle.text.specs.WritingLaws.{wrote_one, wrote_length, wrote_as}
 use Rattle.listing.specs.ListingLaws.{days-length}
 use Rattle.listing.specs.Listing.{day_in, days_of}

@@ -1,5 +1,4 @@
 -- `fields::day` meets its contract: a day of two bytes fits.
-use borrow.Author.Rules.{rules}
 use Prim.Native.Nat.{◌+◌, ◌*◌}
 use native.Mathlib.Omega.{arith}
 use Rattle.listing.proofs.fields.day.Goals as goal

@@ -1,14 +1,13 @@
-use borrow.Author.Rules.{rules}
 use mathlib.Core.List.{List, [], ◌∷◌}
 use mathlib.Core.Bool.{Bool, cond}
 use mathlib.Core.Path.{◌≡◌, sym, ap, ap₂, ◌∙◌}
-use Prim.Native.Nat.{ℕ, ◌-◌, ◌<◌}
+use Prim.Native.Nat.{ℕ, ◌<◌}
 use native.Mathlib.Omega.{arith}
 use Rattle.theory.specs.Reading.{kept}
 use Rattle.words.specs.Word.{bit}
 use Rattle.table.specs.LayoutLaws.{rel-bit}
 use Rattle.table.specs.Layout.{row, rel}
-use Rattle.text.specs.JoinedLaws.{Joining, joining_start, joining_room, joining_more, joining_end}
+use Rattle.text.specs.JoinedLaws.{joining_start, joining_room, joining_more, joining_end}
 use Rattle.text.specs.WritingLaws.{wrote_length, wrote_as, room_as}
 use Rattle.listing.specs.ListingLaws.{kept_few}
 use Rattle.listing.specs.Listing.{day_in, kept_days}

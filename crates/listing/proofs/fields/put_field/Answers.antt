@@ -1,5 +1,4 @@
 -- `fields::put_field` meets its contract: what was found at the front are the days that the field keeps.
-use borrow.Author.Rules.{rules}
 use mathlib.Core.Path.{sym, ap}
 use native.Mathlib.Omega.{arith}
 use lib.Seq.{length-take-le}

@@ -1,10 +1,5 @@
-use borrow.Author.Rules.{rules}
-use Prim.Native.Nat.{◌-◌}
-use Rattle.table.specs.Layout.{rel}
-use Rattle.text.specs.JoinedLaws.{Joining, joining_start, joining_room, joining_more, joining_end}
+use Rattle.text.specs.JoinedLaws.{joining_start, joining_room, joining_more, joining_end}
 use Rattle.text.specs.WritingLaws.{wrote_length}
-use Rattle.listing.specs.Listing.{day_in, kept_days}
-use Rattle.text.specs.Text.{field_line}
 use Rattle.listing.proofs.fields.put_fields.Goals as goal
 
 pub loop-i-init : goal.loop-i-init

@@ -1,9 +1,7 @@
 -- `fields::put_fields` meets its contract: each turn writes one field's line.
-use borrow.Author.Rules.{rules}
 use Prim.Native.Nat.{◌-◌}
 use Rattle.table.specs.Layout.{rel}
-use Rattle.text.specs.JoinedLaws.{Joining, joining_start, joining_room, joining_more, joining_end}
-use Rattle.text.specs.WritingLaws.{wrote_length}
+use Rattle.text.specs.JoinedLaws.{Joining}
 use Rattle.listing.specs.Listing.{day_in, kept_days}
 use Rattle.text.specs.Text.{field_line}
 use Rattle.listing.proofs.fields.put_fields.Given as goal

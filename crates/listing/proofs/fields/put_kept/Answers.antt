@@ -1,5 +1,4 @@
 -- `fields::put_kept` meets its contract: the field, the count and the days are written one after the other.
-use borrow.Author.Rules.{rules}
 use mathlib.Core.List.{[], ◌∷◌, ◌++◌}
 use mathlib.Core.Path.{◌∙◌}
 use lib.ListN.{length}

@@ -1,9 +1,7 @@
 -- `first::put_chosen` meets its contract: what was found at the front are the days of the answer.
-use borrow.Author.Rules.{rules}
 use mathlib.Core.List.{List, ◌++◌}
 use mathlib.Core.Path.{sym, ap}
 use Prim.Native.Nat.{ℕ}
-use lib.Seq.{length-take-le}
 use Rattle.text.specs.WritingLaws.{wrote_length, wrote_within, wrote_taken, wrote_as, room_as}
 use Rattle.text.specs.Text.{ascii, numbers, line_feed}
 use Rattle.listing.proofs.first.put_chosen.Goals as goal

@@ -1,5 +1,4 @@
 -- `first::put_first` meets its contract: choosing finds the reading whose days are printed, and refuses where there is none.
-use borrow.Author.Rules.{rules}
 use mathlib.Core.List.{◌++◌, List}
 use mathlib.Core.Path.{◌≡◌, sym, ap, ◌∙◌}
 use Prim.Native.Nat.{◌≤◌, ℕ}

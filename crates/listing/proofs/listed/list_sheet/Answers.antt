@@ -1,5 +1,4 @@
 -- `listed::list_sheet` meets its contract: its own arrays are long enough for any sheet, and for any text.
-use borrow.Author.Rules.{rules}
 use mathlib.Core.Path.{◌≡◌, refl}
 use mathlib.Core.Bool.{true}
 use mathlib.Core.List.{List}

@@ -1,5 +1,4 @@
 -- `listed::put_answer` meets its contract: each answer has its own text.
-use borrow.Author.Rules.{rules}
 use mathlib.Core.Path.{◌≡◌, sym, ap, subst}
 use mathlib.Core.List.{List}
 use Prim.Native.Nat.{ℕ}

@@ -1,5 +1,4 @@
 -- `listed::put_filled` meets its contract: the parts that are lent are those that n fields fill.
-use borrow.Author.Rules.{rules}
 use mathlib.Core.Path.{◌≡◌, sym, ap₂}
 use mathlib.Core.List.{List}
 use Prim.Native.Nat.{ℕ, ◌*◌, ◌≤◌}

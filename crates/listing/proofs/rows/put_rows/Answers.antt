@@ -1,5 +1,4 @@
 -- `rows::put_rows` meets its contract: judging tells the place that the line names, and refuses no table of good shape.
-use borrow.Author.Rules.{rules}
 use mathlib.Core.Path.{sym, ap}
 use Rattle.text.specs.WritingLaws.{wrote_length, wrote_as, room_as}
 use Rattle.text.specs.Text.{rows_line}

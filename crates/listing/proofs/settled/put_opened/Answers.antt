@@ -1,5 +1,4 @@
 -- `settled::put_opened` meets its contract: the budget suffices for a good table, and the text is that of the table which settling leaves.
-use borrow.Author.Rules.{rules}
 use mathlib.Core.List.{List}
 use mathlib.Core.Path.{◌≡◌, sym, ◌∙◌}
 use Prim.Native.Nat.{ℕ, ◌≤◌}

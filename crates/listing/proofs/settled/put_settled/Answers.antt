@@ -1,5 +1,4 @@
 -- `settled::put_settled` meets its contract: the lines are written one after the other, and there is room for all of them.
-use borrow.Author.Rules.{rules}
 use mathlib.Core.List.{List}
 use mathlib.Core.Path.{◌∙◌}
 use Prim.Native.Nat.{ℕ, ◌+◌, ◌*◌, ◌≤◌, ◌<◌}
