@@ -1,5 +1,4 @@
 -- `words::below` meets its contract: one less than `1 << size` has the bits below size; from 32 on, all bits are below.
-use borrow.Author.Rules.{rules}
 use native.Mathlib.Omega.{arith}
 use lib.Pow.{pow_pos}
 use Rattle.words.specs.MachineLaws.{one_shifted}

@@ -1,5 +1,4 @@
 -- `words::has` meets its contract: the shift brings bit b to the lowest place, and the mask leaves it alone.
-use borrow.Author.Rules.{rules}
 use Rattle.words.specs.MachineLaws.{bit_test}
 use Rattle.words.proofs.has.Goals as goal
 

@@ -1,5 +1,4 @@
 -- `words::is_whole` meets its contract: a row is whole where no bit that stands in its span is missing.
-use borrow.Author.Rules.{rules}
 use mathlib.Core.Path.{ap, ◌∙◌}
 use mathlib.Core.Bool.{not, ◌&&◌}
 use Prim.Native.Nat.{ℕ}

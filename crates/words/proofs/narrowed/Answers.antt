@@ -1,13 +1,11 @@
-use mathlib.Core.Logic.{inl, inr, ⊎_elim}
-use Prim.Native.Nat.{◌-◌, ◌<◌}
+use mathlib.Core.Logic.{inl, inr}
+use Prim.Native.Nat.{◌-◌}
 use native.Mathlib.Nat.{pos_of_ne-zero}
 use native.Mathlib.Omega.{arith}
-use lib.Dec.{eqb}
 use lib.Bits.{and_le_r}
-use lib.Count.{count_trailing_zeros, trailing_le}
-use borrow.Author.Tests.{eqb-true, eqb-false, not-true, not-false}
+use lib.Count.{trailing_le}
 use Rattle.words.specs.EndLaws.{trailing_lt}
-use Rattle.words.proofs.Reach.{Going, going_start, going_more, going_end}
+use Rattle.words.proofs.Reach.{going_start, going_more, going_end}
 use Rattle.words.proofs.narrowed.Goals as goal
 use Rattle.words.proofs.narrowed.Goals.{then-loop-left-test+else-rest-ne0, else-loop-left-test}
 

@@ -1,5 +1,4 @@
 -- `words::with_bit` meets its contract: the mask has bit b alone.
-use borrow.Author.Rules.{rules}
 use Rattle.words.proofs.Masks.{put-bit}
 use Rattle.words.proofs.with_bit.Goals as goal
 

@@ -1,5 +1,4 @@
 -- `words::without_bit` meets its contract: the mask has every bit but b.
-use borrow.Author.Rules.{rules}
 use Rattle.words.proofs.Masks.{drop-bit}
 use Rattle.words.proofs.without_bit.Goals as goal
 

@@ -1,8 +1,6 @@
 use mathlib.Core.Path.{refl}
-use Prim.Native.Nat.{◌-◌}
 use native.Mathlib.Omega.{arith}
-use borrow.Author.Rules.{rules}
-use Rattle.words.proofs.Passes.{Pairs, pairs_none, pairs_more, pairs-all}
+use Rattle.words.proofs.Passes.{pairs_none, pairs_more, pairs-all}
 use Rattle.words.proofs.turn.exchanged.Goals as goal
 
 pub loop-q-init : goal.loop-q-init

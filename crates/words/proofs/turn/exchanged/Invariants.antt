@@ -1,9 +1,6 @@
 -- `words::exchanged` meets its contract: after q turns the first q pairs of words are done.
-use mathlib.Core.Path.{refl}
 use Prim.Native.Nat.{◌-◌}
-use native.Mathlib.Omega.{arith}
-use borrow.Author.Rules.{rules}
-use Rattle.words.proofs.Passes.{Pairs, pairs_none, pairs_more, pairs-all}
+use Rattle.words.proofs.Passes.{Pairs}
 use Rattle.words.proofs.turn.exchanged.Given as goal
 
 abbrev pub invariant-loop-q : goal.invariant-loop-q

@@ -1,5 +1,4 @@
 -- `words::high_of` meets its contract: the mask parts the two words.
-use borrow.Author.Rules.{rules}
 use Rattle.words.proofs.Passes.{high-pack}
 use Rattle.words.proofs.turn.high_of.Goals as goal
 

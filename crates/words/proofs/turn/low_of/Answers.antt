@@ -1,5 +1,4 @@
 -- `words::low_of` meets its contract: outside the mask the shifted word alone has bits.
-use borrow.Author.Rules.{rules}
 use Rattle.words.proofs.Passes.{low-pack}
 use Rattle.words.proofs.turn.low_of.Goals as goal
 
