@@ -1,5 +1,4 @@
 -- `cell` meets its contract: the part of 32 words from the start of the cell.
-use borrow.Author.Rules.{rules}
 use Rattle.table.proofs.Places.{cell_is}
 use Rattle.table.proofs.layout.cell.Goals as goal
 

@@ -1,5 +1,4 @@
 -- `row_word` meets its contract: the row is the word at the start of the cell and its number.
-use borrow.Author.Rules.{rules}
 use Rattle.table.proofs.Places.{row_is}
 use Rattle.table.proofs.layout.row_word.Goals as goal
 

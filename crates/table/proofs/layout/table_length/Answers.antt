@@ -1,5 +1,4 @@
 -- `table_length` meets its contract: with at most 16 fields there are at most 256 cells.
-use borrow.Author.Rules.{rules}
 use native.Mathlib.Omega.{arith}
 use Rattle.table.proofs.Places.{square}
 use Rattle.table.proofs.layout.table_length.Goals as goal

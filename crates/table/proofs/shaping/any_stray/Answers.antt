@@ -1,14 +1,12 @@
 use borrow.Author.Rules.{rules}
-use Prim.Native.Nat.{◌-◌}
-use Rattle.table.specs.Cells.{stray_in}
-use Rattle.table.proofs.Gather.{Gathered, gathered_none, gathered_more, gathered_all, stray_bits}
+use Rattle.table.proofs.Gather.{gathered_none, gathered_more, gathered_all, stray_bits}
 use Rattle.table.proofs.shaping.any_stray.Goals as goal
 
 pub loop-a-init : goal.loop-a-init
 loop-a-init c = gathered_none _
 
 pub loop-a-preserved : goal.loop-a-preserved
-loop-a-preserved c = gathered_more _ c.loop-a.invariant c.loop-a-test.true (stray_bits _ _ _ _ (c.shared_slice_known-in-loop-a-1.given c.loop-a.a).fits c.row_mask.ensures)
+loop-a-preserved c = gathered_more _ c.loop-a.invariant c.loop-a-test.true (stray_bits _ _ _ _ (search rules) c.row_mask.ensures)
 
 pub returns : goal.returns
 returns c = gathered_all c.loop-a.invariant c.loop-a-test.false

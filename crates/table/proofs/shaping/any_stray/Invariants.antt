@@ -1,8 +1,7 @@
 -- `any_stray` meets its contract: the word is 0 exactly where no row passed has a stray bit.
-use borrow.Author.Rules.{rules}
 use Prim.Native.Nat.{◌-◌}
 use Rattle.table.specs.Cells.{stray_in}
-use Rattle.table.proofs.Gather.{Gathered, gathered_none, gathered_more, gathered_all, stray_bits}
+use Rattle.table.proofs.Gather.{Gathered}
 use Rattle.table.proofs.shaping.any_stray.Given as goal
 
 abbrev pub invariant-loop-a : goal.invariant-loop-a

@@ -1,5 +1,4 @@
 -- `diagonal_at` meets its contract: a cell of two fields has no diagonal, and in one of a field the words are tested.
-use borrow.Author.Rules.{rules}
 use Rattle.table.proofs.Rows.{diagonal_off, diagonal_row_lem}
 use Rattle.table.proofs.shaping.diagonal_at.Goals as goal
 

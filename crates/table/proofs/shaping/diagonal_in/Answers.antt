@@ -1,7 +1,4 @@
-use borrow.Author.Rules.{rules}
-use Prim.Native.Nat.{◌-◌}
-use Rattle.table.specs.Cells.{diagonal_in}
-use Rattle.table.proofs.Search.{Passed, passed_none, passed_one, found, passed-all}
+use Rattle.table.proofs.Search.{passed_none, passed_one, found, passed-all}
 use Rattle.table.proofs.Faults.{hit, miss, diagonal_at}
 use Rattle.table.proofs.shaping.diagonal_in.Goals as goal
 

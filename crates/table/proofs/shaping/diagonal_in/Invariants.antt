@@ -1,9 +1,7 @@
 -- `diagonal_in` meets its contract: no row passed has a bit off the diagonal.
-use borrow.Author.Rules.{rules}
 use Prim.Native.Nat.{◌-◌}
 use Rattle.table.specs.Cells.{diagonal_in}
-use Rattle.table.proofs.Search.{Passed, passed_none, passed_one, found, passed-all}
-use Rattle.table.proofs.Faults.{hit, miss, diagonal_at}
+use Rattle.table.proofs.Search.{Passed}
 use Rattle.table.proofs.shaping.diagonal_in.Given as goal
 
 abbrev pub invariant-loop-a : goal.invariant-loop-a

@@ -1,8 +1,4 @@
-use borrow.Author.Rules.{rules}
-use Prim.Native.Nat.{◌-◌}
-use lib.ListN.{length}
-use Rattle.table.specs.Shape.{bad_size}
-use Rattle.table.proofs.Search.{Passed, passed_none, passed_one, found, passed-all}
+use Rattle.table.proofs.Search.{passed_none, passed_one, found, passed-all}
 use Rattle.table.proofs.Faults.{size_none, size_over, size_fine}
 use Rattle.table.proofs.shaping.first_bad_size.Goals as goal
 

@@ -1,10 +1,8 @@
 -- `first_bad_size` meets its contract: no size passed is 0 or over the most.
-use borrow.Author.Rules.{rules}
 use Prim.Native.Nat.{◌-◌}
 use lib.ListN.{length}
 use Rattle.table.specs.Shape.{bad_size}
-use Rattle.table.proofs.Search.{Passed, passed_none, passed_one, found, passed-all}
-use Rattle.table.proofs.Faults.{size_none, size_over, size_fine}
+use Rattle.table.proofs.Search.{Passed}
 use Rattle.table.proofs.shaping.first_bad_size.Given as goal
 
 abbrev pub invariant-loop-f : goal.invariant-loop-f

@@ -1,11 +1,9 @@
 -- `first_diagonal` meets its contract: no row of the cells passed has a bit off the diagonal.
-use borrow.Author.Rules.{rules}
 use Prim.Native.Nat.{◌-◌}
-use native.Mathlib.Omega.{arith}
 use lib.ListN.{length}
 use Rattle.table.specs.Layout.{rel}
 use Rattle.table.specs.Shape.{diagonal_row}
-use Rattle.table.proofs.Rows.{Cells, cells_none, cells_more, cells_found, cells_all}
+use Rattle.table.proofs.Rows.{Cells}
 use Rattle.table.proofs.shaping.first_diagonal.Given as goal
 
 abbrev pub invariant-loop-p : goal.invariant-loop-p

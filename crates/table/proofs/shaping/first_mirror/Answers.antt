@@ -1,10 +1,5 @@
-use borrow.Author.Rules.{rules}
-use Prim.Native.Nat.{◌-◌}
 use native.Mathlib.Omega.{arith}
-use lib.ListN.{length}
-use Rattle.table.specs.Layout.{rel}
-use Rattle.table.specs.Shape.{mirror_above}
-use Rattle.table.proofs.Rows.{Cells, cells_none, cells_more, cells_found, cells_all}
+use Rattle.table.proofs.Rows.{cells_none, cells_more, cells_found, cells_all}
 use Rattle.table.proofs.shaping.first_mirror.Goals as goal
 
 pub loop-p-init : goal.loop-p-init

@@ -1,5 +1,4 @@
 -- `formed` meets its contract: the checks 4, 5 and 6 one after the other.
-use borrow.Author.Rules.{rules}
 use native.Mathlib.Omega.{arith}
 use Rattle.table.proofs.Says.{rows_stray, rows_diagonal, rows_mirror, rows-good}
 use Rattle.table.proofs.shaping.formed.Goals as goal
@@ -13,10 +12,8 @@ returns-then-diagonal-table c =
 
 pub returns-then-mirror-table : goal.returns-then-mirror-table
 returns-then-mirror-table c =
-    let d = c in
-    rows_mirror _ _ _ _ d.first_stray-stray.ensures (omega arith) d.first_diagonal-diagonal.ensures (omega arith) c.first_mirror-mirror.ensures (omega arith) c.row_at-at-then-mirror-table.ensures
+    rows_mirror _ _ _ _ c.first_stray-stray.ensures (omega arith) c.first_diagonal-diagonal.ensures (omega arith) c.first_mirror-mirror.ensures (omega arith) c.row_at-at-then-mirror-table.ensures
 
 pub returns : goal.returns
 returns c =
-    let d = c in
-    rows-good _ _ _ _ d.first_stray-stray.ensures (omega arith) d.first_diagonal-diagonal.ensures (omega arith) c.first_mirror-mirror.ensures (omega arith)
+    rows-good _ _ _ _ c.first_stray-stray.ensures (omega arith) c.first_diagonal-diagonal.ensures (omega arith) c.first_mirror-mirror.ensures (omega arith)

@@ -1,5 +1,4 @@
 -- `mirror_at` meets its contract: above the diagonal the words are tested.
-use borrow.Author.Rules.{rules}
 use Rattle.table.proofs.Rows.{mirror_off, mirror_row_lem}
 use Rattle.table.proofs.shaping.mirror_at.Goals as goal
 

@@ -1,9 +1,7 @@
 -- `mirror_in` meets its contract: every row passed is that row of the mirror turned over.
-use borrow.Author.Rules.{rules}
 use Prim.Native.Nat.{◌-◌}
 use Rattle.table.specs.Cells.{mirror_in}
-use Rattle.table.proofs.Search.{Passed, passed_none, passed_one, found, passed-all}
-use Rattle.table.proofs.Faults.{mirror_differs, mirror_same}
+use Rattle.table.proofs.Search.{Passed}
 use Rattle.table.proofs.shaping.mirror_in.Given as goal
 
 abbrev pub invariant-loop-a : goal.invariant-loop-a

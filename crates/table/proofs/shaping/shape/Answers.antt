@@ -1,5 +1,4 @@
 -- `shape` meets its contract: the checks of the sizes, the length and the rows one after the other.
-use borrow.Author.Rules.{rules}
 use mathlib.Core.Path.{sym, ◌∙◌}
 use Rattle.table.specs.ShapeLaws.{check-sizes}
 use Rattle.table.specs.AnswerLaws.{told-refused, told-good, told_on}
@@ -14,15 +13,12 @@ table_length-requires c = (told-good (check-sizes _) c.sized-fields.ensures c.in
 
 pub returns-then-table-table_length : goal.returns-then-table-table_length
 returns-then-table-table_length c =
-    let d = c in
-    length_wrong _ _ _ (λ e. c.if-table-table_length.true (e ∙ sym c.table_length.ensures)) ∙ told_on (check-sizes _) d.sized-fields.ensures d.in_default.is _
+    length_wrong _ _ _ (λ e. c.if-table-table_length.true (e ∙ sym c.table_length.ensures)) ∙ told_on (check-sizes _) c.sized-fields.ensures c.in_default.is _
 
 pub formed-requires : goal.formed-requires
 formed-requires c =
-    let d = c in
-    record { few = (told-good (check-sizes _) d.sized-fields.ensures d.in_default.is).few; long = c.if-table-table_length.false ∙ c.table_length.ensures }
+    record { few = (told-good (check-sizes _) c.sized-fields.ensures c.in_default.is).few; long = c.if-table-table_length.false ∙ c.table_length.ensures }
 
 pub returns : goal.returns
 returns c =
-    let d = c in
-    c.formed.ensures ∙ length-right _ _ _ (c.if-table-table_length.false ∙ c.table_length.ensures) ∙ told_on (check-sizes _) d.sized-fields.ensures d.in_default.is _
+    c.formed.ensures ∙ length-right _ _ _ (c.if-table-table_length.false ∙ c.table_length.ensures) ∙ told_on (check-sizes _) c.sized-fields.ensures c.in_default.is _

@@ -1,5 +1,4 @@
 -- `sized` meets its contract: the checks 1 and 2 one after the other.
-use borrow.Author.Rules.{rules}
 use Rattle.table.proofs.Says.{sizes_none, sizes_many, sizes_bad, sizes-good}
 use Rattle.table.proofs.shaping.sized.Goals as goal
 

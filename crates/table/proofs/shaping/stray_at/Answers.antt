@@ -1,5 +1,4 @@
 -- `stray_at` meets its contract: the test of the words is the test of the rows they stand for.
-use borrow.Author.Rules.{rules}
 use Rattle.table.proofs.Rows.{stray_row_lem}
 use Rattle.table.proofs.shaping.stray_at.Goals as goal
 

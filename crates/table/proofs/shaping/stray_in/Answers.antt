@@ -1,14 +1,10 @@
-use borrow.Author.Rules.{rules}
-use borrow.Author.Tests.{not-true}
-use Prim.Native.Nat.{◌-◌}
-use Rattle.table.specs.Cells.{stray_in}
-use Rattle.table.proofs.Search.{Passed, passed_none, passed_one, found, passed-all}
+use Rattle.table.proofs.Search.{passed_none, passed_one, found, passed-all}
 use Rattle.table.proofs.Faults.{hit, miss, stray_at}
 use Rattle.table.proofs.Gather.{none_first}
 use Rattle.table.proofs.shaping.stray_in.Goals as goal
 
 pub returns-then-not-any_stray : goal.returns-then-not-any_stray
-returns-then-not-any_stray c = none_first _ _ c.any_stray.ensures (not-true _ c.if-not-any_stray.true-raw)
+returns-then-not-any_stray c = none_first _ _ c.any_stray.ensures c.if-not-any_stray.true
 
 pub loop-a-init : goal.loop-a-init
 loop-a-init c = passed_none _ _

@@ -1,11 +1,7 @@
 -- `stray_in` meets its contract: no row passed has a stray bit.
-use borrow.Author.Rules.{rules}
-use borrow.Author.Tests.{not-true}
 use Prim.Native.Nat.{◌-◌}
 use Rattle.table.specs.Cells.{stray_in}
-use Rattle.table.proofs.Search.{Passed, passed_none, passed_one, found, passed-all}
-use Rattle.table.proofs.Faults.{hit, miss, stray_at}
-use Rattle.table.proofs.Gather.{none_first}
+use Rattle.table.proofs.Search.{Passed}
 use Rattle.table.proofs.shaping.stray_in.Given as goal
 
 abbrev pub invariant-loop-a : goal.invariant-loop-a

@@ -1,5 +1,4 @@
 -- `clear` meets its contract: one word is written, without the bit.
-use borrow.Author.Rules.{rules}
 use Rattle.table.proofs.Parts.{cleared_is}
 use Rattle.table.proofs.striking.clear.Goals as goal
 

@@ -1,5 +1,4 @@
 -- `strike` meets its contract: each cell is lent on by itself and comes back with one bit cleared.
-use borrow.Author.Rules.{rules}
 use Rattle.table.proofs.Parts.{struck-parts}
 use Rattle.table.proofs.striking.strike.Goals as goal
 
