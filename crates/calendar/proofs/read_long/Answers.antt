@@ -9,11 +9,11 @@ use Rattle.calendar.specs.Calendar.{first_year, last_year, date}
 use Rattle.calendar.specs.Ascending.{ascending}
 use Rattle.calendar.specs.DateText.{date_length, short_length, separator, pair_at, year_in, shaped_long, read_as, with_real, days_of, shown}
 use Rattle.calendar.specs.WritingLaws.{laid_length}
-use Rattle.calendar.specs.DateTextLaws.{shaped_as_long, shown-long, long_laid, long_years, days-ascending, days-length}
+use Rattle.calendar.specs.DateTextLaws.{shaped_as_long, shown-long, long_laid, long_years}
 use Rattle.calendar.specs.DaysFound.{Holds, held}
 use Rattle.calendar.specs.declared.found.Found.{Found}
 use Rattle.calendar.specs.DateAnswersLaws.{reads_shaped, reads_shapeless}
-use Rattle.calendar.proofs.Held.{held_is, holds-held, room_for}
+use Rattle.calendar.proofs.Held.{held_is, holds-held, room_for, room_after}
 use Rattle.calendar.proofs.Laid.{passed}
 use Rattle.calendar.proofs.read_long.Goals as goal
 
@@ -61,9 +61,8 @@ both text n i j k h l = rw (shown-long _ n, ← i, ← j, ← k) (rw (held_is h)
 pub with_reading-requires : goal.with_reading-requires
 with_reading-requires c =
     let y = years c.args.text.now c.shaped_long.ensures c.if-not-shaped_long.false c.year_in-y.ensures in
-    let month_first = date c.year_in-y.result c.pair_at-a.result c.pair_at-b.result in
     let h = first _ _ _ c.nothing.ensures c.with_reading-month_first.ensures in
-    (room_for h (days-ascending _) (omega (arith, days-length (month_first ∷ []))), y.0, y.1)
+    (room_after _ h (omega arith), y.0, y.1)
 
 pub answered-requires : goal.answered-requires
 answered-requires c =

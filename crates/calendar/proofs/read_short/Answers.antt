@@ -9,11 +9,11 @@ use Rattle.calendar.specs.Calendar.{first_year, Date, date}
 use Rattle.calendar.specs.Ascending.{ascending}
 use Rattle.calendar.specs.DateText.{separator, short_length, short_year_at, pair_at, read_as, laid_out, with_real, days_of, shown}
 use Rattle.calendar.specs.WritingLaws.{first_pair, third_pair}
-use Rattle.calendar.specs.DateTextLaws.{shaped_as_short, shown-short, days-ascending, days-length}
+use Rattle.calendar.specs.DateTextLaws.{shaped_as_short, shown-short}
 use Rattle.calendar.specs.DaysFound.{Holds, held}
 use Rattle.calendar.specs.declared.found.Found.{Found}
 use Rattle.calendar.specs.DateAnswersLaws.{reads_shaped, reads_shapeless}
-use Rattle.calendar.proofs.Held.{held_is, holds-held, room_for}
+use Rattle.calendar.proofs.Held.{held_is, holds-held, room_for, room_after}
 use Rattle.calendar.proofs.Laid.{passed}
 use Rattle.calendar.proofs.read_short.Goals as goal
 
@@ -62,8 +62,7 @@ overflow_add-c c = omega (arith, last_small _ c.shaped_short.ensures c.if-not-sh
 pub with_reading-month_first-requires : goal.with_reading-month_first-requires
 with_reading-month_first-requires c =
     let s = last_small c.args.text.now c.shaped_short.ensures c.if-not-shaped_short.false c.pair_at-c.ensures in
-    let t = date (first_year + c.pair_at-a.result) c.pair_at-b.result c.pair_at-c.result in
-    (room_for (one _ c.nothing.ensures c.with_reading-year_first.ensures) (days-ascending _) (omega (arith, days-length (t ∷ []))), omega arith, omega (arith, s))
+    (room_after _ (one _ c.nothing.ensures c.with_reading-year_first.ensures) (omega arith), omega arith, omega (arith, s))
 
 pub overflow_add-c-2 : goal.overflow_add-c-2
 overflow_add-c-2 c = omega (arith, last_small _ c.shaped_short.ensures c.if-not-shaped_short.false c.pair_at-c.ensures)
@@ -71,10 +70,8 @@ overflow_add-c-2 c = omega (arith, last_small _ c.shaped_short.ensures c.if-not-
 pub with_reading-requires : goal.with_reading-requires
 with_reading-requires c =
     let s = last_small c.args.text.now c.shaped_short.ensures c.if-not-shaped_short.false c.pair_at-c.ensures in
-    let t = date (first_year + c.pair_at-a.result) c.pair_at-b.result c.pair_at-c.result in
-    let u = date (first_year + c.pair_at-c.result) c.pair_at-a.result c.pair_at-b.result in
     let h = two _ _ (one _ c.nothing.ensures c.with_reading-year_first.ensures) c.with_reading-month_first.ensures in
-    (room_for h (days-ascending _) (omega (arith, days-length (u ∷ t ∷ []))), omega arith, omega (arith, s))
+    (room_after _ h (omega arith), omega arith, omega (arith, s))
 
 pub answered-requires : goal.answered-requires
 answered-requires c =
