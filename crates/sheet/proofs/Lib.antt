@@ -1,3 +1,5 @@
+pub mod Allowed
+pub mod AllowedLaws
 pub mod Answering
 pub mod Cells
 pub mod Filling

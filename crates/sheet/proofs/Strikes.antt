@@ -21,7 +21,7 @@ use Rattle.scan.specs.Sheet.{Record, field, gap, strike, any_pair}
 use Rattle.sheet.specs.Opening.{day_of, admits, outside, turned, struck_by, struck_by_all, everything, opening}
 use Rattle.theory.proofs.StrikeLaws.{strike_in}
 use Rattle.sheet.specs.OpeningLaws.{everything_e}
-use Rattle.sheet.specs.AllowedLaws.{admits_e, admits_i}
+use Rattle.sheet.proofs.AllowedLaws.{admits_e, admits_i}
 use Rattle.sheet.specs.Writing.{narrowed_row, CellNarrowed}
 
 -- one record more

@@ -1,7 +1,6 @@
 pub mod Opening
 pub mod OpeningLaws
 pub mod Terms
-pub mod AllowedLaws
 pub mod BufferLaws
 pub mod ReadingLaws
 pub mod Theorems

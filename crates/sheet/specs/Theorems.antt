@@ -1,5 +1,5 @@
 -- The theorems of reading a sheet, each beside the sentence of 01 that it carries.
-use Rattle.std.specs.Prelude.{◌≡◌, ◌↔◌, Bool, ℕ, ◌+◌, ◌*◌, ◌≤◌, ◌<◌, T, length, take}
+use Rattle.std.specs.Prelude.{◌≡◌, ◌↔◌, Bool, ℕ, ◌+◌, ◌*◌, ◌≤◌, ◌<◌, length, take}
 use Rattle.std.proofs.Common.{sym, ap, ◌∙◌, mul-le-mul, arith, leb→le}
 use mathlib.Core.List.{List, [], map}
 use Rattle.std.proofs.Math.Dec.{leb}
@@ -26,8 +26,7 @@ use Rattle.scan.specs.Sheet.{Record, fields_of, early, scan, whole}
 use Rattle.scan.specs.WholeLaws.{GoodField, GoodFields, whole-good, whole_some}
 use Rattle.sheet.specs.Opening.{day_of, opening, days_of, sheet_most, Outcome, reading, Reads}
 use Rattle.sheet.specs.OpeningLaws.{size_of_lem, opening-words, opening-good}
-use Rattle.sheet.specs.Terms.{LongEnough, TooShort, records_of, fields_in, Pairing, EveryGapAdmits, NoStrike}
-use Rattle.sheet.specs.AllowedLaws.{opening_iff}
+use Rattle.sheet.specs.Terms.{LongEnough, TooShort, records_of, fields_in}
 use Rattle.sheet.specs.BufferLaws.{over_new, over_old, over_length, good_few, length-days, days_at_lem}
 use Rattle.sheet.specs.ReadingLaws.{reading_ends, ends_13, ends_14, ends_scanned, ends_refused, reads_opened, reads_leaves, opened-sizes, opened-table}
 
@@ -112,13 +111,6 @@ module _ (sep : ℕ → Bool) (sheet sizes days table : List ℕ) {n : ℕ} {s d
   opened_stands_for_the_opening =
       rw (opened_table_is_the_opening, opened_answers_the_number_of_fields)
       (opening-words (fields_in sep sheet) (records_of sep sheet) opened_fields_are_good)
-
-  -- "The opening table allows everything, diagonals full. GP keeps the pairs whose day of j minus day of i, which may be negative, lies
-  -- from lo to hi [..]. PR strikes one pair"
-  pub opened_allows_exactly_what_no_record_forbids : (i j a b : ℕ) → i < n → j < n
-      → T (rel n (take (table_length n) t) i j a b) ↔ (Pairing (fields_in sep sheet) i j a b × EveryGapAdmits (fields_in sep sheet) (records_of sep sheet) i j a b × NoStrike (records_of sep sheet) i j a b)
-  opened_allows_exactly_what_no_record_forbids i j a b hi hj =
-      rw (opened_stands_for_the_opening i j a b hi hj) (opening_iff (fields_in sep sheet) i j a b (records_of sep sheet))
 
   -- the buffers, place by place
 
