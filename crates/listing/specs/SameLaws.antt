@@ -8,14 +8,12 @@ use Prim.Native.Nat.{ℕ, zero, suc, ◌≤◌, ◌<◌}
 use Rattle.theory.specs.Limits.{readings_most}
 use Rattle.theory.specs.Bound.{first}
 use Rattle.theory.specs.BoundLaws.{lt_or_ge, first_same}
-use Rattle.theory.specs.Relation.{Rel, WellFormed, Agree, Settled, rounds}
-use Rattle.theory.proofs.RelationLaws.{pair_small, rounds_wf}
-use Rattle.theory.proofs.AgreeLaws.{agree_empty, agree_rounds, agree_steps, agree_walked}
+use Rattle.theory.specs.Relation.{Rel, WellFormed, Agree, Settled}
+use Rattle.theory.proofs.RelationLaws.{pair_small}
+use Rattle.theory.proofs.AgreeLaws.{agree_empty, agree_walked}
 use Rattle.theory.specs.Reading.{kept, empty}
 use Rattle.theory.specs.Rows.{whole, WholeRows}
 use Rattle.theory.proofs.RowsLaws.{stands_agree}
-use Rattle.theory.specs.Settling.{steps}
-use Rattle.theory.proofs.SettlingLaws.{steps-settled}
 use Rattle.theory.specs.Choice.{by_number, Same, walk}
 use Rattle.theory.proofs.ChoiceLaws.{walk_walked, walked_unique}
 use Rattle.theory.proofs.Theorems.{field_order, first_exists}
@@ -27,7 +25,7 @@ use Rattle.table.specs.Shape.{row_place}
 use Rattle.judge.specs.Asked.{broken_row}
 use Rattle.choose.specs.ChoosingLaws.{check-whole}
 use Rattle.text.specs.Text.{joined, state_line, rounds_line, field_line, rows_line, first_line}
-use Rattle.listing.specs.Listing.{kept_days, days_of, broken_place, where_whole, chosen_days, lines_of, opened_text}
+use Rattle.listing.specs.Listing.{kept_days, days_of, broken_place, where_whole, chosen_days, lines_of}
 
 pub joined_same : (k : ℕ) (f g : ℕ → List ℕ) → ((i : ℕ) → i < k → f i ≡ g i) → joined k f ≡ joined k g
 unfolding joined
@@ -92,14 +90,6 @@ module _ (n : ℕ) (size : ℕ → ℕ) (day : ℕ → ℕ → ℕ) (R S : Rel) 
       ap (λ (t : List ℕ). state_line (says 0 []) ++ (rounds_line r ++ t))
       (ap₂ ◌++◌ fields-same (ap₂ ◌++◌ (ap rows_line broken_same) (ap first_line chosen-same)))
 
--- opening tables that allow the same
-
-pub opened_same : (n : ℕ) (size : ℕ → ℕ) (day : ℕ → ℕ → ℕ) (R S : Rel) → Agree n R S → opened_text n size day R ≡ opened_text n size day S
-unfolding opened_text
-opened_same n size day R S e =
-    lines_same n size day (rounds n (steps n R) R) (rounds n (steps n R) S) (agree_rounds n (steps n R) R S e) (steps n R)
-    ∙ ap (λ (r : ℕ). lines_of n r (kept_days (rounds n r S) day) (broken_place n size (rounds n r S)) (chosen_days n size day (rounds n r S))) (agree_steps n R S e)
-
 -- days that are the same for every reading
 
 -- where no row is named, the rows are whole
@@ -136,7 +126,3 @@ module _ (n : ℕ) (size : ℕ → ℕ) (M : Rel) (w : WellFormed n size M) (s :
   dated_lines r =
       ap (λ (t : List ℕ). state_line (says 0 []) ++ (rounds_line r ++ t))
       (ap₂ ◌++◌ (joined_same n (λ i. field_line i (kept_days M day i)) (λ i. field_line i (kept_days M day' i)) (λ i h. ap (field_line i) (dated-kept i h))) (ap (λ (t : List ℕ). rows_line (broken_place n size M) ++ first_line t) dated-chosen))
-
-pub opened_dated : (n : ℕ) (size : ℕ → ℕ) (R : Rel) → WellFormed n size R → (day day' : ℕ → ℕ → ℕ) → ((i a : ℕ) → i < n → a < readings_most → day i a ≡ day' i a) → opened_text n size day R ≡ opened_text n size day' R
-unfolding opened_text
-opened_dated n size R w day day' d = dated_lines n size (rounds n (steps n R) R) (rounds_wf (steps n R) w) (steps-settled w) day day' d (steps n R)
