@@ -1,45 +1,46 @@
-// Answers as numbers on one line.
-use libc::STDOUT_FILENO;
+// Answers as numbers on one line. An error means that the line may be cut off anywhere.
 use refusal::Refusal;
+use std::io;
 
-pub fn text(t: &[u8]) {
-    io::write_all(STDOUT_FILENO, t);
+// Bytes as they are; a line of a script need not be text.
+pub fn text<P: Print>(rt: &P, t: &[u8]) -> io::Result<()> {
+    rt.write_all(t)
 }
 
 // A space and a number.
-pub fn number(n: u64) {
-    io::write_all(STDOUT_FILENO, b" ");
-    io::print_decimal(STDOUT_FILENO, n);
+pub fn number<P: Print>(rt: &P, n: u64) -> io::Result<()> {
+    print!(rt; " {n}")
 }
 
 // A space and a row's word, a day, or a byte.
-pub fn word(w: u32) {
-    number(w as u64);
+pub fn word<P: Print>(rt: &P, w: u32) -> io::Result<()> {
+    number(rt, w as u64)
 }
 
-pub fn day(d: u16) {
-    number(d as u64);
+pub fn day<P: Print>(rt: &P, d: u16) -> io::Result<()> {
+    number(rt, d as u64)
 }
 
-pub fn byte(b: u8) {
-    number(b as u64);
+pub fn byte<P: Print>(rt: &P, b: u8) -> io::Result<()> {
+    number(rt, b as u64)
 }
 
-pub fn line_ends() {
-    io::write_all(STDOUT_FILENO, b"\n");
+pub fn line_ends<P: Print>(rt: &P) -> io::Result<()> {
+    println!(rt)
 }
 
 // The refusal's number and the values of its place.
-pub fn refusal(r: Refusal) {
+pub fn refusal<P: Print>(rt: &P, r: Refusal) -> io::Result<()> {
     let p = refusal::in_numbers(r);
     let values = p.values;
     let count = p.count;
-    number(p.number as u64);
+    number(rt, p.number as u64)?;
     let mut i = 0;
     while i < 3 {
         if i < count {
-            number(values[i] as u64);
+            number(rt, values[i] as u64)?;
         }
         i += 1;
     }
+    Ok(())
 }
