@@ -7,9 +7,11 @@ mod making;
 mod state;
 mod verbs;
 
-fn main() {
-    lines::run_dates(b"dates");
-    lines::run_script(b"tables");
-    lines::run_script(b"settling");
-    lines::run_script(b"choosing");
+use std::io;
+
+fn main(rt: HostRuntime) -> io::Result<()> {
+    lines::run_dates(&rt, b"dates")?;
+    lines::run_script(&rt, b"tables")?;
+    lines::run_script(&rt, b"settling")?;
+    lines::run_script(&rt, b"choosing")
 }

@@ -1,13 +1,16 @@
 // What a script has made so far, and one line of it.
+ghost use Rattle.std.specs.Prelude.{◌≡◌, length, OnErr};
+
 use crate::verbs::Verb;
 use crate::{making, verbs};
+use std::io;
 use table::FIELDS_MOST;
 use vectors::bytes::{field, put_bytes, within};
 use vectors::line::Args;
 use vectors::{asking, line, print};
 
 // How much of each buffer is set.
-#[derive(Drop)]
+#[derive(Clone, Copy)]
 pub struct Lengths {
     pub sizes: usize,
     pub table: usize,
@@ -71,27 +74,47 @@ fn change(verb: Verb, args: Args, n: usize, table: &mut [u32], opening: &mut [u3
 }
 
 // A line that asks something of a table as it is.
-fn ask<'a>(verb: Verb, args: Args, sizes: &[u8], table: &'a [u32], opening: &'a [u32]) {
+fn ask<'a, P: Print>(
+    rt: &P,
+    verb: Verb,
+    args: Args,
+    sizes: &[u8],
+    table: &'a [u32],
+    opening: &'a [u32],
+) -> io::Result<()> {
     let values = args.values;
     match verb {
-        Verb::Shape => asking::print_shape(sizes, table),
-        Verb::Kept => asking::print_kept(sizes, table, field(values[0])),
-        Verb::Judge => asking::print_rows(sizes, table),
-        Verb::Choose => asking::print_choice(sizes, table, args),
-        Verb::Show => asking::print_cell(sizes, opening, table, field(values[0]), field(values[1])),
-        _ => {}
+        Verb::Shape => asking::print_shape(rt, sizes, table),
+        Verb::Kept => asking::print_kept(rt, sizes, table, field(values[0])),
+        Verb::Judge => asking::print_rows(rt, sizes, table),
+        Verb::Choose => asking::print_choice(rt, sizes, table, args),
+        Verb::Show => {
+            let i = field(values[0]);
+            let j = field(values[1]);
+            asking::print_cell(rt, sizes, opening, table, i, j)
+        }
+        _ => Ok(()),
     }
 }
 
 // A line that settles: the budget, and the length of scratch where it is not the table's.
-fn settle(args: Args, sizes: &[u8], table: &mut [u32], scratch: &mut [u32]) {
+fn settle<P: Print>(
+    rt: &P,
+    args: Args,
+    sizes: &[u8],
+    table: &mut [u32],
+    scratch: &mut [u32],
+) -> io::Result<()>
+    ensures err_table { OnErr result (length table.new ≡ length table.old) }
+    ensures err_scratch { OnErr result (length scratch.new ≡ length scratch.old) }
+{
     let values = args.values;
     let mut asked = table.len() as u64;
     if args.count > 1 {
         asked = values[1];
     }
     let long = within(asked, scratch.len());
-    asking::print_settling(sizes, table, &mut scratch[0..long], values[0]);
+    asking::print_settling(rt, sizes, table, &mut scratch[0..long], values[0])
 }
 
 fn asks(verb: Verb) -> bool {
@@ -107,38 +130,45 @@ fn asks(verb: Verb) -> bool {
 }
 
 // One line: it makes, changes or asks, and what asks is printed with its answer; how much is set after it.
-pub fn run_line(
+pub fn run_line<P: Print>(
+    rt: &P,
     text: &[u8],
     set: Lengths,
     sizes: &mut [u8],
     table: &mut [u32],
     opening: &mut [u32],
     scratch: &mut [u32],
-) -> Lengths {
+) -> io::Result<Lengths>
+    ensures err_sizes { OnErr result (sizes.new ≡ sizes.old) }
+    ensures err_table { OnErr result (length table.new ≡ length table.old) }
+    ensures err_opening { OnErr result (opening.new ≡ opening.old) }
+    ensures err_scratch { OnErr result (length scratch.new ≡ length scratch.old) }
+{
     let verb = verbs::verb_of(text);
     let args = line::numbers(text);
     let n = within(set.sizes as u64, sizes.len());
     let long = within(set.table as u64, table.len());
     let kept = within(set.opening as u64, opening.len());
     if asks(verb) {
-        print::text(text);
-        print::text(b":");
+        print::text(rt, text)?;
+        print::text(rt, b":")?;
         if let Verb::Settle = verb {
-            settle(args, &sizes[0..n], &mut table[0..long], scratch);
-            print::line_ends();
-            return set;
+            settle(rt, args, &sizes[0..n], &mut table[0..long], scratch)?;
+            print::line_ends(rt)?;
+            return Ok(set);
         }
-        ask(verb, args, &sizes[0..n], &table[0..long], &opening[0..kept]);
-        print::line_ends();
-        return set;
+        let opened = &opening[0..kept];
+        ask(rt, verb, args, &sizes[0..n], &table[0..long], opened)?;
+        print::line_ends(rt)?;
+        return Ok(set);
     }
     change(verb, args, n, &mut table[0..long], opening);
     if let Verb::Opening = verb {
-        return Lengths {
+        return Ok(Lengths {
             sizes: n,
             table: long,
             opening: long,
-        };
+        });
     }
-    remade(verb, args, set, sizes, table)
+    Ok(remade(verb, args, set, sizes, table))
 }

@@ -1,7 +1,7 @@
 // What a line of a script asks for.
 use vectors::line::starts;
 
-#[derive(Drop)]
+#[derive(Clone, Copy)]
 pub enum Verb {
     Sizes,
     Table,
