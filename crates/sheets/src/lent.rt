@@ -41,7 +41,7 @@ pub fn put_pattern(sizes: &mut [u8], days: &mut [u16], table: &mut [u32]) {
 }
 
 // How far each buffer is written, and a sum of what is.
-#[derive(Drop)]
+#[derive(Clone, Copy)]
 pub struct Traces {
     pub sizes: usize,
     pub days: usize,

@@ -1,16 +1,31 @@
 // A file of sheets, line by line.
+ghost use Rattle.std.specs.Prelude.{◌≡◌, length, OnErr};
+
 use crate::state;
 use crate::state::Set;
+use std::io;
+use std::rt::Files;
 use vectors::file;
 
-fn each_line(
+// The bytes of a file that are read at most.
+const FILE_MOST: usize = 65536;
+
+// An error comes between two lines or within one: the buffers are as the lines before it made them.
+fn each_line<P: Print>(
+    rt: &P,
     text: &[u8],
     space: &mut [u8],
     sizes: &mut [u8],
     days: &mut [u16],
     table: &mut [u32],
     scratch: &mut [u32],
-) {
+) -> io::Result<()>
+    ensures err_space { OnErr result (length space.new ≡ length space.old) }
+    ensures err_sizes { OnErr result (length sizes.new ≡ length sizes.old) }
+    ensures err_days { OnErr result (length days.new ≡ length days.old) }
+    ensures err_table { OnErr result (length table.new ≡ length table.old) }
+    ensures err_scratch { OnErr result (length scratch.new ≡ length scratch.old) }
+{
     let mut set = Set {
         long: 0,
         last: 0,
@@ -22,26 +37,29 @@ fn each_line(
     let mut at = 0;
     while at < text.len() {
         let end = file::line_end(text, at);
-        set = state::run_line(&text[at..end], set, space, sizes, days, table, scratch);
+        let line = &text[at..end];
+        set = state::run_line(rt, line, set, space, sizes, days, table, scratch)?;
         at = end + 1;
     }
+    Ok(())
 }
 
 // Every line of the file makes a sheet, has it read, or asks something of what was read.
-pub fn run_script(path: &[u8]) {
-    let mut text = io::large_buffer();
-    let n = file::read_file(path, &mut text);
+pub fn run_script<R: Files + Print + Eprint>(rt: &R, path: &[u8]) -> io::Result<()> {
+    let mut text = [0u8; FILE_MOST];
+    let n = file::read_file(rt, path, &mut text)?;
     let mut space = [0u8; 4200];
     let mut sizes = [0u8; 32];
     let mut days = [0u16; 600];
     let mut table = [0u32; 8400];
     let mut scratch = [0u32; 8400];
     each_line(
+        rt,
         &text[0..n],
         &mut space,
         &mut sizes,
         &mut days,
         &mut table,
         &mut scratch,
-    );
+    )
 }

@@ -8,6 +8,8 @@ mod records;
 mod state;
 mod verbs;
 
-fn main() {
-    lines::run_script(b"sheets");
+use std::io;
+
+fn main(rt: HostRuntime) -> io::Result<()> {
+    lines::run_script(&rt, b"sheets")
 }

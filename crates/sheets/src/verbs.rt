@@ -2,7 +2,7 @@
 use vectors::line::starts;
 
 // A sheet begun, lengths lent, records and bytes added to the sheet; questions; and any other line, which is a note.
-#[derive(Drop)]
+#[derive(Clone, Copy)]
 pub enum Verb {
     Sheet,
     Lend,
