@@ -6,4 +6,4 @@ use Rattle.lister.specs.declared.Input.TheVariants.{Bytes, Failed}
 -- no more bytes than there was room for
 abbrev pub Came : ℕ → Input → Type 0
 Came room (Bytes n) = n ≤ room
-Came room Failed = Unit {0}
+Came room (Failed e) = Unit {0}
