@@ -8,7 +8,7 @@ use Prim.Native.Nat.{ℕ, ◌+◌, ◌*◌, ◌≤◌, ◌<◌}
 use Rattle.std.proofs.Math.Arith.{digits_lt}
 use Rattle.std.proofs.Math.ListN.{length}
 use Rattle.theory.specs.Limits.{readings_most}
-use Rattle.theory.specs.Bound.{first, val}
+use Rattle.theory.specs.Bound.{first}
 use Rattle.theory.specs.BoundLaws.{not_i, not_e, not-not, first-le, first_holds, first_least, first_none, lt_or_ge}
 use Rattle.theory.specs.Relation.{Rel, WellFormed}
 use Rattle.theory.proofs.RelationLaws.{pair_small}

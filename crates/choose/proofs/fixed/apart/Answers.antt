@@ -19,4 +19,6 @@ has-requires c = c.requires.4 (ne_free _ c.if-b-eq-FREE.false)
 
 pub returns : goal.returns
 returns c =
-    apart_read c.args.n _ _ _ c.args.a _ _ _ c.if-a-eq-FREE.false c.if-b-eq-FREE.false (c.requires.3 (ne_free _ c.if-a-eq-FREE.false)) (c.requires.4 (ne_free _ c.if-b-eq-FREE.false)) c.row_word.ensures c.has.ensures
+    let first = c.requires.3 (ne_free _ c.if-a-eq-FREE.false) in
+    let second = c.requires.4 (ne_free _ c.if-b-eq-FREE.false) in
+    apart_read c.args.n _ _ _ c.args.a _ _ _ c.if-a-eq-FREE.false c.if-b-eq-FREE.false first second c.row_word.ensures c.has.ensures

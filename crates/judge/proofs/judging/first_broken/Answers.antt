@@ -1,5 +1,7 @@
 use Rattle.table.proofs.Faults.{hit, miss}
 use Rattle.judge.proofs.Gaps.{row-broken, fields_none, columns_none, readings_none, readings_more, columns_more, fields_more, broken-said, whole-said}
+use mathlib.Core.Path.{ap}
+use mathlib.Core.Bool.{not}
 use Rattle.judge.proofs.judging.first_broken.Goals as goal
 
 pub search-init : goal.search-init
@@ -17,7 +19,7 @@ loop-a-init c = readings_none c.loop-j.invariant
 pub loop-a-preserved : goal.loop-a-preserved
 loop-a-preserved c =
     readings_more c.loop-a.invariant c.loop-i-test.true c.loop-j-test.true c.loop-a-test.true
-    (miss (row-broken _ _ _ _ _ c.cell-cell.ensures c.field_size.ensures c.below-stand.ensures c.loop-a-test.true c.is_whole.ensures) c.if-not-is_whole.false-raw)
+    (miss (row-broken _ _ _ _ _ c.cell-cell.ensures c.field_size.ensures c.below-stand.ensures c.loop-a-test.true c.is_whole.ensures) (ap not c.if-not-is_whole.false))
 
 pub loop-j-preserved : goal.loop-j-preserved
 loop-j-preserved c = columns_more c.loop-a.invariant c.loop-j-test.true c.loop-a-test.false
@@ -28,7 +30,7 @@ loop-i-preserved c = fields_more c.loop-j.invariant c.loop-i-test.true c.loop-j-
 pub returns-then-not-is_whole : goal.returns-then-not-is_whole
 returns-then-not-is_whole c =
     broken-said c.loop-a.invariant c.loop-i-test.true c.loop-j-test.true c.loop-a-test.true
-    (hit (row-broken _ _ _ _ _ c.cell-cell.ensures c.field_size.ensures c.below-stand.ensures c.loop-a-test.true c.is_whole.ensures) c.if-not-is_whole.true-raw)
+    (hit (row-broken _ _ _ _ _ c.cell-cell.ensures c.field_size.ensures c.below-stand.ensures c.loop-a-test.true c.is_whole.ensures) (ap not c.if-not-is_whole.true))
 
 pub returns-after-loop-i : goal.returns-after-loop-i
 returns-after-loop-i c = whole-said c.loop-i.invariant c.loop-i-test.false

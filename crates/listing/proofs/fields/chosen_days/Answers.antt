@@ -14,7 +14,7 @@ unfolding days_of
 loop-i-init c = joining_start (record { enough = omega (arith, c.requires.1, days-length (length c.args.answer.now) (day_in c.args.days.now) (λ k. get_or c.args.answer.now k 0)) })
 
 pub overflow_cast-answer : goal.overflow_cast-answer
-overflow_cast-answer c = omega (arith, c.shared_slice_known-in-loop-i-1.given c.loop-i.i)
+overflow_cast-answer c = omega (arith, c.type_inv.answer c.loop-i.i)
 
 pub day-requires : goal.day-requires
 day-requires c = omega (arith, c.requires.0.long, c.requires.0.small c.loop-i.i c.loop-i-test.true)
@@ -23,7 +23,9 @@ pub bounds-found-i : goal.bounds-found-i
 bounds-found-i c = omega (arith, joining_room c.loop-i.invariant c.loop-i-test.true)
 
 pub loop-i-preserved : goal.loop-i-preserved
-loop-i-preserved c = joining_more c.loop-i.invariant c.loop-i-test.true (wrote_as (ap (λ (x : ℕ). x ∷ []) c.day.ensures) (wrote_one (record { enough = omega (arith, joining_room c.loop-i.invariant c.loop-i-test.true) })))
+loop-i-preserved c =
+    joining_more c.loop-i.invariant c.loop-i-test.true
+    (wrote_as (ap (λ (x : ℕ). x ∷ []) c.day.ensures) (wrote_one (record { enough = omega (arith, joining_room c.loop-i.invariant c.loop-i-test.true) })))
 
 pub shape_of-found : goal.shape_of-found
 shape_of-found c = wrote_length c.loop-i.invariant.sofar

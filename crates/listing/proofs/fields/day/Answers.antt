@@ -4,4 +4,4 @@ use native.Mathlib.Omega.{arith}
 use Rattle.listing.proofs.fields.day.Goals as goal
 
 pub overflow_cast-result : goal.overflow_cast-result
-overflow_cast-result c = omega (arith, c.shared_slice_known-1.given (c.args.i * 32 + c.args.a))
+overflow_cast-result c = omega (arith, c.type_inv.days (c.args.i * 32 + c.args.a))

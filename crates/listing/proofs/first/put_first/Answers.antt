@@ -39,13 +39,20 @@ slice_bounds-put_chosen-end c =
 pub put_chosen-requires : goal.put_chosen-requires
 put_chosen-requires c =
     let long : length c.choose-choice.new.answer ≡ length c.args.sizes.now = c.choose-choice.ensures.long ∙ length-take-le _ _ (omega (arith, c.requires.0.good.good.few)) in
-    rw take_at (answered c.requires.0 c.choose-choice.ensures (all-free c.args.sizes.now c.requires.0.good.good.few) c.in-Chosen.is long, omega (arith, c.requires.0.good.good.few), room_as (chosen_line c.requires.0 c.choose-choice.ensures (all-free c.args.sizes.now c.requires.0.good.good.few) c.in-Chosen.is (day_in c.args.days.now) long) c.requires.1)
+    let free = all-free c.args.sizes.now c.requires.0.good.good.few in
+    rw take_at (
+      answered c.requires.0 c.choose-choice.ensures free c.in-Chosen.is long,
+      omega (arith, c.requires.0.good.good.few),
+      room_as (chosen_line c.requires.0 c.choose-choice.ensures free c.in-Chosen.is (day_in c.args.days.now) long) c.requires.1,
+    )
 
 pub put_line-requires : goal.put_line-requires
 put_line-requires c =
     let few = c.requires.0.good.good.few in
     let room = λ (l : List ℕ) (h : length c.args.sizes.now ≤ length l). length-take-le (length c.args.sizes.now) l h in
-    room_as (ap first_line (none_chosen c.requires.0 c.choose-choice.ensures (all-free c.args.sizes.now few) c.in-Refused.is (room _ (omega arith)) (room _ (omega arith)) (day_in c.args.days.now))) c.requires.1
+    let free = all-free c.args.sizes.now few in
+    let none = none_chosen c.requires.0 c.choose-choice.ensures free c.in-Refused.is (room _ (omega arith)) (room _ (omega arith)) (day_in c.args.days.now) in
+    room_as (ap first_line none) c.requires.1
 
 pub shape_of-out-in-Chosen : goal.shape_of-out-in-Chosen
 shape_of-out-in-Chosen c = wrote_length c.put_chosen.ensures
@@ -53,7 +60,9 @@ shape_of-out-in-Chosen c = wrote_length c.put_chosen.ensures
 pub returns-in-Chosen : goal.returns-in-Chosen
 returns-in-Chosen c =
     let long : length c.choose-choice.new.answer ≡ length c.args.sizes.now = c.choose-choice.ensures.long ∙ length-take-le _ _ (omega (arith, c.requires.0.good.good.few)) in
-    wrote_as (sym (chosen_line c.requires.0 c.choose-choice.ensures (all-free c.args.sizes.now c.requires.0.good.good.few) c.in-Chosen.is (day_in c.args.days.now) long)) (rw take_at at c.put_chosen.ensures)
+    let free = all-free c.args.sizes.now c.requires.0.good.good.few in
+    wrote_as (sym (chosen_line c.requires.0 c.choose-choice.ensures free c.in-Chosen.is (day_in c.args.days.now) long))
+    (rw take_at at c.put_chosen.ensures)
 
 pub shape_of-out-in-Refused : goal.shape_of-out-in-Refused
 shape_of-out-in-Refused c = wrote_length c.put_line.ensures
@@ -62,5 +71,6 @@ pub returns-in-Refused : goal.returns-in-Refused
 returns-in-Refused c =
     let few = c.requires.0.good.good.few in
     let room = λ (l : List ℕ) (h : length c.args.sizes.now ≤ length l). length-take-le (length c.args.sizes.now) l h in
-    wrote_as (sym (ap first_line (none_chosen c.requires.0 c.choose-choice.ensures (all-free c.args.sizes.now few) c.in-Refused.is (room _ (omega arith)) (room _ (omega arith)) (day_in c.args.days.now))))
-    c.put_line.ensures
+    let free = all-free c.args.sizes.now few in
+    let none = none_chosen c.requires.0 c.choose-choice.ensures free c.in-Refused.is (room _ (omega arith)) (room _ (omega arith)) (day_in c.args.days.now) in
+    wrote_as (sym (ap first_line none)) c.put_line.ensures

@@ -8,7 +8,8 @@ use Rattle.scan.specs.declared.mark.Mark.TheVariants.{Unknown}
 use Rattle.scan.proofs.mark.mark_at.Goals as goal
 
 -- a number that is none of the marks
-none : (m : ℕ) → (m ≡ 0x4454 → ⊥) → (m ≡ 0x4453 → ⊥) → (m ≡ 0x4644 → ⊥) → (m ≡ 0x4750 → ⊥) → (m ≡ 0x5052 → ⊥) → (m ≡ 0x454e → ⊥) → Unknown ≡ mark_of m
+none : (m : ℕ) → (m ≡ 0x4454 → ⊥) → (m ≡ 0x4453 → ⊥) → (m ≡ 0x4644 → ⊥) → (m ≡ 0x4750 → ⊥) → (m ≡ 0x5052 → ⊥) → (m ≡ 0x454e → ⊥)
+    → Unknown ≡ mark_of m
 unfolding mark_of
 none m d s f g p e = simp (ne_eqb m 0x4454 d, ne_eqb m 0x4453 s, ne_eqb m 0x4644 f, ne_eqb m 0x4750 g, ne_eqb m 0x5052 p, ne_eqb m 0x454e e)
 
