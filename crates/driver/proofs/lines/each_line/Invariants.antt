@@ -3,7 +3,13 @@ use Rattle.std.proofs.Common.{◌≡◌, ◌+◌, ◌-◌, ◌≤◌, length}
 use Rattle.driver.proofs.lines.each_line.Given as goal
 
 abbrev pub invariant-loop-at : goal.invariant-loop-at
-invariant-loop-at g l = (l.at ≤ length l.text + 1) × (length l.sizes ≡ length l.initial.sizes) × (length l.table ≡ length l.initial.table) × (length l.opening ≡ length l.initial.opening) × (length l.scratch ≡ length l.initial.scratch)
+invariant-loop-at g l = record {
+  within : l.at ≤ length l.text + 1;
+  sizes : length l.sizes ≡ length l.initial.sizes;
+  table : length l.table ≡ length l.initial.table;
+  opening : length l.opening ≡ length l.initial.opening;
+  scratch : length l.scratch ≡ length l.initial.scratch;
+}
 
 abbrev pub decreases-loop-at : goal.decreases-loop-at
 decreases-loop-at g l = length l.text + 1 - l.at

@@ -3,7 +3,14 @@ use Rattle.std.proofs.Common.{◌≡◌, ◌+◌, ◌-◌, ◌≤◌, length}
 use Rattle.sheets.proofs.lines.each_line.Given as goal
 
 abbrev pub invariant-loop-at : goal.invariant-loop-at
-invariant-loop-at g l = (l.at ≤ length l.text + 1) × (length l.space ≡ length l.initial.space) × (length l.sizes ≡ length l.initial.sizes) × (length l.days ≡ length l.initial.days) × (length l.table ≡ length l.initial.table) × (length l.scratch ≡ length l.initial.scratch)
+invariant-loop-at g l = record {
+  within : l.at ≤ length l.text + 1;
+  space : length l.space ≡ length l.initial.space;
+  sizes : length l.sizes ≡ length l.initial.sizes;
+  days : length l.days ≡ length l.initial.days;
+  table : length l.table ≡ length l.initial.table;
+  scratch : length l.scratch ≡ length l.initial.scratch;
+}
 
 abbrev pub decreases-loop-at : goal.decreases-loop-at
 decreases-loop-at g l = length l.text + 1 - l.at

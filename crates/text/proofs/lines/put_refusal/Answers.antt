@@ -15,7 +15,12 @@ pub slice_bounds-put_state-end : goal.slice_bounds-put_state-end
 slice_bounds-put_state-end c = sym (length-take-le _ _ (counted_fit c.args.r c.in_numbers-p.ensures))
 
 pub put_state-requires : goal.put_state-requires
-put_state-requires c = (c.requires, omega (arith, numbered c.args.r, c.in_numbers-p.ensures.number), omega (arith, place_short c.args.r, c.in_numbers-p.ensures.count, length-take-le c.in_numbers-p.result.count c.in_numbers-p.result.values (counted_fit c.args.r c.in_numbers-p.ensures)))
+put_state-requires c =
+    let held = length-take-le c.in_numbers-p.result.count c.in_numbers-p.result.values (counted_fit c.args.r c.in_numbers-p.ensures) in (
+      c.requires,
+      omega (arith, numbered c.args.r, c.in_numbers-p.ensures.number),
+      omega (arith, place_short c.args.r, c.in_numbers-p.ensures.count, held),
+    )
 
 pub returns : goal.returns
 returns c = wrote_as (ap state_line (printed_says c.args.r c.in_numbers-p.ensures)) c.put_state.ensures

@@ -11,20 +11,28 @@ use Rattle.text.specs.Text.{line_most, said, place_text, line_feed, state_line}
 use Rattle.text.specs.WritingLaws.{wrote_then, wrote_length, room-front, room_after}
 use Rattle.text.proofs.lines.put_state.Goals as goal
 
-room : {out : List ℕ} {at : ℕ} (state : ℕ) (place : List ℕ) → at + line_most ≤ length out → state < 100 → length place ≤ 3 → ((i : ℕ) → get_or place i 0 < 2 ^ 64) → Room out at (state_line (says state place))
+room :
+    {out : List ℕ} {at : ℕ} (state : ℕ) (place : List ℕ) → at + line_most ≤ length out → state < 100 → length place ≤ 3 →
+    ((i : ℕ) → get_or place i 0 < 2 ^ 64) → Room out at (state_line (says state place))
 room state place h k l small = record { enough = omega (arith, state-length (says state place) k l (digits-all place small)) }
 
 pub put_said-next-requires : goal.put_said-next-requires
 unfolding state_line
-put_said-next-requires c = room-front (said "state" (c.args.state ∷ [])) (place_text c.args.place.now ++ line_feed) (room c.args.state c.args.place.now c.requires.0 c.requires.1 c.requires.2 (λ i. (c.type_inv.place i).fits))
+put_said-next-requires c =
+    let r = room c.args.state c.args.place.now c.requires.0 c.requires.1 c.requires.2 (λ i. (c.type_inv.place i).fits) in
+    room-front (said "state" (c.args.state ∷ [])) (place_text c.args.place.now ++ line_feed) r
 
 pub put_place-next-requires : goal.put_place-next-requires
 unfolding state_line
-put_place-next-requires c = room-front (place_text c.args.place.now) line_feed (room_after _ c.put_said-next.ensures (room c.args.state c.args.place.now c.requires.0 c.requires.1 c.requires.2 (λ i. (c.type_inv.place i).fits)))
+put_place-next-requires c =
+    let r = room c.args.state c.args.place.now c.requires.0 c.requires.1 c.requires.2 (λ i. (c.type_inv.place i).fits) in
+    room-front (place_text c.args.place.now) line_feed (room_after _ c.put_said-next.ensures r)
 
 pub put_byte-requires : goal.put_byte-requires
 unfolding state_line
-put_byte-requires c = room_after line_feed c.put_place-next.ensures (room_after _ c.put_said-next.ensures (room c.args.state c.args.place.now c.requires.0 c.requires.1 c.requires.2 (λ i. (c.type_inv.place i).fits)))
+put_byte-requires c =
+    let r = room c.args.state c.args.place.now c.requires.0 c.requires.1 c.requires.2 (λ i. (c.type_inv.place i).fits) in
+    room_after line_feed c.put_place-next.ensures (room_after _ c.put_said-next.ensures r)
 
 pub shape_of-out : goal.shape_of-out
 shape_of-out c = wrote_length c.put_byte.ensures ∙ wrote_length c.put_place-next.ensures ∙ wrote_length c.put_said-next.ensures
