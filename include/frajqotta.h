@@ -21,7 +21,7 @@
  * A table of n fields is n * n * 32 words: cell (i, j) starts at word (i * n + j) * 32, its word a is
  * row a, and bit b of that says that reading a of field i goes with reading b of field j.
  *
- * Link with target/staticlib/libcapi.a (`rt staticlib capi`), for x86-64 Linux.
+ * Link with target/staticlib/libcapi.a (tools/build writes it), for x86-64 Linux.
  */
 #ifndef FRAJQOTTA_H
 #define FRAJQOTTA_H
