@@ -44,12 +44,16 @@ module _ (n : ℕ) (size : ℕ → ℕ) (day : ℕ → ℕ → ℕ) (M : Rel) (f
       let x : ℕ → ℕ = walk n by_number size M (λ f. 255) n in
       chosen_or_none n (empty n M) (broken_place n size M) (days_of n day x) (omega (arith, days-length n day x)) (digits-joined 5 n (λ i. day i (x i) ∷ []) (λ i k. (small i (x i), tt)))
 
-  pub lines_length : (r : ℕ) → r ≤ rounds_most → length (lines_of n r (kept_days M day) (broken_place n size M) (chosen_days n size day M)) ≤ text_most
+-- whichever table each line is of
+module _ (n : ℕ) (size : ℕ → ℕ) (day : ℕ → ℕ → ℕ) (few : n ≤ fields_most) (small : (i a : ℕ) → day i a < 10 ^ 5) where
+  pub parts_length : (K B C : Rel) (r : ℕ) → r ≤ rounds_most → length (lines_of n r (kept_days K day) (broken_place n size B) (chosen_days n size day C)) ≤ text_most
   unfolding lines_of
-  lines_length r h =
-      let fields : List ℕ = joined n (λ i. field_line i (kept_days M day i)) in
-      let rows : List ℕ = rows_line (broken_place n size M) in
-      let chosen : List ℕ = first_line (chosen_days n size day M) in
+  parts_length K B C r h =
+      let fields : List ℕ = joined n (λ i. field_line i (kept_days K day i)) in
+      let rows : List ℕ = rows_line (broken_place n size B) in
+      let chosen : List ℕ = first_line (chosen_days n size day C) in
+      let place = broken-length n size day B few small in
+      let days = chosen-length n size day C few small in
       omega (
         arith,
         length-append (state_line (says 0 [])) (rounds_line r ++ (fields ++ (rows ++ chosen))),
@@ -58,7 +62,11 @@ module _ (n : ℕ) (size : ℕ → ℕ) (day : ℕ → ℕ → ℕ) (M : Rel) (f
         length-append rows chosen,
         zero-state,
         rounds-length r (omega arith),
-        fields-length,
-        rows-length (broken_place n size M) broken-length.0 broken-length.1,
-        first-length (chosen_days n size day M) (omega (arith, chosen-length.0)) chosen-length.1,
+        fields-length n size day K few small,
+        rows-length (broken_place n size B) place.0 place.1,
+        first-length (chosen_days n size day C) (omega (arith, days.0)) days.1,
       )
+
+pub lines_length : (n : ℕ) (size : ℕ → ℕ) (day : ℕ → ℕ → ℕ) (M : Rel) → n ≤ fields_most → ((i a : ℕ) → day i a < 10 ^ 5)
+    → (r : ℕ) → r ≤ rounds_most → length (lines_of n r (kept_days M day) (broken_place n size M) (chosen_days n size day M)) ≤ text_most
+lines_length n size day M few small = parts_length n size day few small M M M

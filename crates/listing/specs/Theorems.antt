@@ -1,7 +1,7 @@
 -- The theorems of the lister's text, each beside the sentence of 01 that it carries.
-use Rattle.std.proofs.Common.{◌∙◌}
+use Rattle.std.proofs.Common.{◌∙◌, leb-true, inl, inr, arith, leb→le}
 use Rattle.std.proofs.Math.Path.{◌≡◌, refl}
-use Rattle.std.specs.Prelude.{Bool, cond, not, ℕ, ◌≤◌, leb, length}
+use Rattle.std.specs.Prelude.{Bool, cond, not, ℕ, ◌≤◌, leb, length, ◌^◌, ◌<◌, get_or}
 use Rattle.std.proofs.Math.Bool.{true, false}
 use mathlib.Core.List.{List, [], ◌∷◌}
 use Rattle.std.proofs.Math.Dec.{T}
@@ -11,18 +11,24 @@ use Rattle.theory.specs.Reading.{empty}
 use Rattle.theory.specs.Settling.{steps}
 use Rattle.theory.specs.Choice.{by_number, First}
 use Rattle.theory.proofs.Theorems.{first_exists, first_is_one, steps_at_most_rounds_most}
-use Rattle.refusal.specs.Said.{says}
-use Rattle.scan.specs.Sheet.{Record, fields_of, Scanned, whole, faulty, scan}
-use Rattle.scan.specs.WholeLaws.{GoodFields}
-use Rattle.sheet.specs.Opening.{sheet_most, opening}
+use Rattle.refusal.specs.Said.{says, Said}
+use Rattle.scan.specs.Sheet.{Record, fields_of, Scanned, whole, faulty, scan, early}
+use Rattle.scan.specs.WholeLaws.{GoodFields, whole-good}
+use Rattle.sheet.specs.Opening.{sheet_most, opening, day_of}
 use Rattle.sheet.specs.OpeningLaws.{opening-formed}
-use Rattle.text.specs.Text.{joined, Closed, state_line, rounds_line, field_line, rows_line}
+use Rattle.text.specs.Text.{joined, Closed, state_line, rounds_line, field_line, rows_line, line_most}
 use Rattle.text.specs.TextLaws.{closed_after, state_closed, first_closed}
 use Rattle.text.specs.Writing.{Shows}
 use Rattle.text.specs.Theorems.{shown_is_one}
 use Rattle.listing.specs.declared.listed.Listing.{Listing}
 use Rattle.listing.specs.Listing.{text_most, days_of, broken_place, where_whole, chosen_days, lines_of, opened_text, records_text, scanned_text, list_text}
 use Rattle.listing.specs.SameLaws.{days_same, unbroken}
+use Rattle.std.proofs.Math.ListN.{get_or-eq_default}
+use Rattle.theory.specs.BoundLaws.{all_e, lt_or_ge}
+use Rattle.calendar.specs.Calendar.{last_day}
+use Rattle.scan.specs.FaultLaws.{FaultIn, scan-fault}
+use Rattle.text.specs.LengthLaws.{state-length}
+use Rattle.listing.specs.LengthLaws.{parts_length}
 
 -- "two results satisfying the statement coincide"
 pub listing_is_one : {text : List ℕ} (x y : Listing) → Shows text_most text x.bytes x.length → Shows text_most text y.bytes y.length → x ≡ y
@@ -59,6 +65,42 @@ module _ (n : ℕ) (size : ℕ → ℕ) (day : ℕ → ℕ → ℕ) (M : Rel) wh
       either : (b : Bool) → ◌≡◌ {A = List ℕ} (cond b [] []) []
       either true = refl
       either false = refl
+
+-- the text fits
+
+-- days have at most five digits
+day-small : (fields : List (List ℕ)) → GoodFields fields → (i a : ℕ) → day_of fields i a < 10 ^ 5
+unfolding early
+day-small fields g i a = elim (lt_or_ge i (length fields)) [
+  | inl h ↦ elim (lt_or_ge a (length (get_or fields i []))) [
+    | inl l ↦ omega (arith, leb→le (get_or (get_or fields i []) a 0) last_day (all_e (length (get_or fields i [])) (λ k. leb (get_or (get_or fields i []) k 0) last_day) (g.each i h).in_time a l))
+    | inr l ↦ rw (get_or-eq_default (get_or fields i []) 0 l) (omega arith)
+  ]
+  | inr h ↦ rw (get_or-eq_default fields [] h) (omega arith)
+]
+
+records_most : (rs : List Record) → GoodFields (fields_of rs) → length (records_text rs) ≤ text_most
+unfolding records_text opened_text
+records_most rs g = parts_length (length (fields_of rs)) _ (day_of (fields_of rs)) g.few (day-small (fields_of rs) g) _ _ _ _ (budget_suffices rs g)
+
+fault_most : (s : List ℕ) (q : Said) → length s ≤ sheet_most → FaultIn s q → length (state_line q) ≤ line_most
+fault_most s q h f = elim f.fault.place [
+  | inl e ↦ state-length q (omega (arith, f.fault.most)) (rw e (omega arith)) (rw e tt)
+  | inr e ↦ state-length q (omega (arith, f.fault.most)) (rw e (omega arith)) (rw e (omega (arith, f.within), tt))
+]
+
+-- so many bytes are enough for any sheet's text
+pub text_at_most_text_most : (sep : ℕ → Bool) (sheet : List ℕ) → length (list_text sep sheet) ≤ text_most
+unfolding list_text
+text_at_most_text_most sep sheet = first (leb (length sheet) sheet_most) refl
+  where
+    second : length sheet ≤ sheet_most → (x : Scanned) → scan sep sheet ≡ x → length (scanned_text x) ≤ text_most
+    second h (whole rs) e = records_most rs (whole-good sep sheet rs e)
+    second h (faulty q) e = omega (arith, fault_most sheet q h (scan-fault sep sheet q e))
+
+    first : (b : Bool) → leb (length sheet) sheet_most ≡ b → length (cond b (scanned_text (scan sep sheet)) (state_line (says 14 []))) ≤ text_most
+    first true e = second (leb-true (length sheet) sheet_most e) (scan sep sheet) refl
+    first false e = omega (arith, state-length (says 14 []) (omega arith) (omega arith) tt)
 
 -- "Lines, each closed by a line feed": so is the last
 lines_closed : (n r : ℕ) (kept : ℕ → List ℕ) (broken chosen : List ℕ) → Closed (lines_of n r kept broken chosen)

@@ -22,7 +22,7 @@ pub enum Verdict {
 
 fn judge_field(sheet: &[u8], at: usize, mark: Mark, sizes: &[u8], late: bool) -> Verdict
     requires { at ≤ length sheet.now }
-    ensures { gist_of result ≡ gist (adds (record { sizes = sizes.entry.now; late = late }) at (field_by separator mark sheet.now at)) }
+    ensures { gist_of result ≡ gist (adds (record { sizes = sizes.now; late = late }) at (field_by separator mark sheet.now at)) }
 {
     if late {
         return Verdict::Stop(Refusal::Late(at));
@@ -76,7 +76,7 @@ fn judge_end(sheet: &[u8], at: usize, sizes: &[u8]) -> Verdict
 // The record at an offset, after records that have said the fields' sizes, and whether a GP or PR came.
 pub fn judge_at(sheet: &[u8], at: usize, sizes: &[u8], late: bool) -> Verdict
     requires { at ≤ length sheet.now }
-    ensures { gist_of result ≡ gist (step_at separator (record { sizes = sizes.entry.now; late = late }) sheet.now at) }
+    ensures { gist_of result ≡ gist (step_at separator (record { sizes = sizes.now; late = late }) sheet.now at) }
 {
     if sheet.len() < at + 2 {
         return Verdict::Stop(Refusal::Cut(at));

@@ -2,7 +2,8 @@
 use Rattle.std.specs.Prelude.{◌≡◌, ◌⊎◌, ◌&&◌, ℕ, zero, suc, ◌≤◌, ◌<◌, T}
 use Rattle.std.proofs.Common.{subst, inl, inr, eq-or-lt_of_le, arith}
 use Rattle.theory.specs.Limits.{readings_most}
-use Rattle.theory.specs.BoundLaws.{and_i, and_l, and_r, T_ext, all_i, all_e, any_i, any_e}
+use Rattle.theory.specs.Bound.{all, any}
+use Rattle.theory.specs.BoundLaws.{and_i, and_l, and_r, or_r, T_ext, all_i, all_e, any_i, any_e}
 use Rattle.theory.specs.Relation.{Rel, WellFormed, Within, Agree, composed, Settled, round, rounds, Largest, Sound}
 
 -- well_formed relations
@@ -23,7 +24,9 @@ pair_kept {R = R} w i a b hi t = subst (λ (c : ℕ). T (R i i c b)) (w.same i a
 
 pub composed_i : (R : Rel) (i k j a b c : ℕ) → c < readings_most → T (R i k a c) → T (R k j c b) → T (composed R i k j a b)
 unfolding composed
-composed_i R i k j a b c h s t = any_i readings_most _ c h (and_i (R i k a c) (R k j c b) s t)
+composed_i R i k j a b c h s t =
+    let found : T (any readings_most (λ d. R i k a d && R k j d b)) = any_i readings_most (λ d. R i k a d && R k j d b) c h (and_i (R i k a c) (R k j c b) s t) in
+    search (found, or_r)
 
 pub composed_e : (R : Rel) (i k j a b : ℕ) → T (composed R i k j a b) → (c : ℕ) × (c < readings_most) × T (R i k a c) × T (R k j c b)
 unfolding composed
@@ -40,7 +43,9 @@ composed_within n R S w i k j a b hi hk hj t =
 
 pub round_i : (n : ℕ) (R : Rel) (i j a b : ℕ) → T (R i j a b) → ((k : ℕ) → k < n → T (composed R i k j a b)) → T (round n R i j a b)
 unfolding round
-round_i n R i j a b t f = and_i (R i j a b) _ t (all_i n (λ k. composed R i k j a b) f)
+round_i n R i j a b t f =
+    let each : T (all n (λ k. composed R i k j a b)) = all_i n (λ k. composed R i k j a b) f in
+    and_i (R i j a b) _ t (search (each, or_r))
 
 pub round_in : (n : ℕ) (R : Rel) (i j a b : ℕ) → T (round n R i j a b) → T (R i j a b)
 unfolding round

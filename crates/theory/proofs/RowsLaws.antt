@@ -22,9 +22,11 @@ stands_agree n R S e size j b hj = refl
 
 pub whole_i : (stand p : ℕ → Bool) → Whole stand p → T (whole stand p)
 unfolding whole
-whole_i stand p f = all_i readings_most _ (λ b2 l. all_i b2 _ (λ b k. all_i b _ (λ b1 h. imp_by (p b1 && (p b2 && stand b)) (p b) (λ t.
+whole_i stand p f = all_i readings_most _ (λ b2 l. all_i b2 _ (λ b k. all_i b _ (λ b1 h. imp_by (p b1 && (p b2 && stand b)) _ (λ t.
     let u = and_r (p b1) (p b2 && stand b) t in
-    f b1 b b2 h k (and_l (p b1) (p b2 && stand b) t) (and_l (p b2) (stand b) u) (and_r (p b2) (stand b) u)))))
+    let one : T (p b1) = and_l (p b1) (p b2 && stand b) t in
+    let between : T (p b) = f b1 b b2 h k one (and_l (p b2) (stand b) u) (and_r (p b2) (stand b) u) in
+    search (one, between)))))
 
 pub whole_e : (stand p : ℕ → Bool) → ((b : ℕ) → T (p b) → b < readings_most) → T (whole stand p) → Whole stand p
 unfolding whole

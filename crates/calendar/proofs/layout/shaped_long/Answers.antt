@@ -16,21 +16,12 @@ pub returns-then-text-ne-DATE_LENGTH : goal.returns-then-text-ne-DATE_LENGTH
 unfolding shaped_long laid_out
 returns-then-text-ne-DATE_LENGTH c = rw (ne_eqb _ date_length c.if-text-ne-DATE_LENGTH.true)
 
-pub front_fits-requires : goal.front_fits-requires
-front_fits-requires c = omega (arith, c.if-text-ne-DATE_LENGTH.false)
-
 pub returns-then-not-front_fits : goal.returns-then-not-front_fits
 returns-then-not-front_fits c = long_out separator _ (front_out date_length (fits_at separator _) short_length (omega arith) (sym c.front_fits.ensures ∙ c.if-not-front_fits.true))
-
-pub digits_at-requires : goal.digits_at-requires
-digits_at-requires c = omega (arith, c.if-text-ne-DATE_LENGTH.false)
 
 pub returns-then-not-digits_at : goal.returns-then-not-digits_at
 unfolding fits_at
 returns-then-not-digits_at c = long_out separator _ (pair_out date_length (fits_at separator c.args.text.now) 8 (omega arith) (sym c.digits_at.ensures ∙ c.if-not-digits_at.true))
-
-pub year_in-y-requires : goal.year_in-y-requires
-year_in-y-requires c = omega (arith, c.if-text-ne-DATE_LENGTH.false)
 
 -- past the tests the text is laid out
 laid : (text : List ℕ) {a b : Bool} → length text ≡ date_length
@@ -44,7 +35,7 @@ pub returns-then-y-ge-FIRST_YEAR : goal.returns-then-y-ge-FIRST_YEAR
 unfolding shaped_long
 returns-then-y-ge-FIRST_YEAR c =
     rw (
-      laid c.args.text.now c.if-text-ne-DATE_LENGTH.false c.front_fits.ensures c.if-not-front_fits.false c.digits_at.ensures c.if-not-digits_at.false,
+      laid c.args.text.now (omega arith) c.front_fits.ensures c.if-not-front_fits.false c.digits_at.ensures c.if-not-digits_at.false,
       ← c.year_in-y.ensures,
       le-leb 2000 _ c.if-y-ge-FIRST_YEAR.true,
     )
@@ -53,7 +44,7 @@ pub returns-else-y-ge-FIRST_YEAR : goal.returns-else-y-ge-FIRST_YEAR
 unfolding shaped_long
 returns-else-y-ge-FIRST_YEAR c =
     rw (
-      laid c.args.text.now c.if-text-ne-DATE_LENGTH.false c.front_fits.ensures c.if-not-front_fits.false c.digits_at.ensures c.if-not-digits_at.false,
+      laid c.args.text.now (omega arith) c.front_fits.ensures c.if-not-front_fits.false c.digits_at.ensures c.if-not-digits_at.false,
       ← c.year_in-y.ensures,
       lt-leb 2000 _ c.if-y-ge-FIRST_YEAR.false,
     )

@@ -2,6 +2,7 @@
 use mathlib.Core.Path.{ap, ◌∙◌}
 use mathlib.Core.List.{[], ◌∷◌}
 use Prim.Native.Nat.{ℕ}
+use native.Mathlib.Omega.{arith}
 use Rattle.refusal.specs.Said.{says}
 use Rattle.table.specs.ShapeLaws.{check_shape, good-sized}
 use Rattle.table.specs.AnswerLaws.{told-refused, told-good, told_on}
@@ -17,7 +18,7 @@ returns-in-Refused c = told-refused (check_shape _ _) c.shape-shaped.ensures _ c
 pub returns-then-field-sizes : goal.returns-then-field-sizes
 unfolding kept_says
 returns-then-field-sizes c =
-    field_no _ _ c.if-field-sizes.true _ ∙ told_on (check_shape _ _) c.shape-shaped.ensures c.in_default.is _
+    field_no _ _ (omega (arith, c.if-field-sizes.true)) _ ∙ told_on (check_shape _ _) c.shape-shaped.ensures c.in_default.is _
 
 pub cell-requires : goal.cell-requires
 cell-requires c =

@@ -9,7 +9,7 @@ use Rattle.theory.specs.Limits.{fields_most}
 use Rattle.sheet.specs.Opening.{days_most, words_most, lent}
 use Rattle.text.specs.Writing.{zeros}
 use Rattle.text.specs.WritingLaws.{wrote_as, wrote_shows}
-use Rattle.listing.proofs.ListedLaws.{answer-left, answer-text}
+use Rattle.listing.specs.ListedLaws.{answer-left, answer-text}
 use Rattle.listing.proofs.listed.list_sheet.Goals as goal
 
 lent-long : (sizes days t : List ℕ) → length sizes ≡ fields_most → length days ≡ days_most → length t ≡ words_most → lent sizes days t ≡ true

@@ -25,7 +25,7 @@ use Rattle.sheet.specs.ReadingLaws.{Ends, short, long, fault, opened, reading_en
 use Rattle.sheet.specs.Theorems.{opened_answers_the_number_of_fields, opened_fields_are_good, opened_sizes_are_the_fields, opened_table_is_the_opening, opened_is_good, opened_stands_for_the_opening}
 use Rattle.text.specs.Text.{state_line}
 use Rattle.listing.specs.Listing.{day_in, opened_text, records_text, scanned_text, list_text, answer_text, Filled, Left}
-use Rattle.listing.proofs.OpenedLaws.{opened_same, opened_dated}
+use Rattle.listing.specs.SameLaws.{opened_same, opened_dated}
 
 -- the days of a field, zeros to the end of its 32
 
