@@ -20,7 +20,7 @@ fn each_date<P: Print>(rt: &P, text: &[u8]) -> io::Result<()> {
     Ok(())
 }
 
-// An error comes between two lines or within one: the buffers are as the lines before it made them.
+// An error is of printing alone: what the lines before it made stands, and of the line that could not be printed what it settled or read.
 fn each_line<P: Print>(
     rt: &P,
     text: &[u8],

@@ -10,7 +10,7 @@ use vectors::file;
 // The bytes of a file that are read at most.
 const FILE_MOST: usize = 65536;
 
-// An error comes between two lines or within one: the buffers are as the lines before it made them.
+// An error is of printing alone: what the lines before it made stands, and of the line that could not be printed what it settled or read.
 fn each_line<P: Print>(
     rt: &P,
     text: &[u8],
