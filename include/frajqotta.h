@@ -16,12 +16,13 @@
  *   - a buffer that is written (no const) overlaps no other buffer of the same call;
  *   - no other thread writes to a buffer of a call, or reads one that is written, while it runs.
  * Lengths count elements, not bytes. The functions keep nothing from one call to the next, take no
- * memory from the heap and call no function of the C library.
+ * memory from the heap and call no function of the C library but memmove and memset.
  *
  * A table of n fields is n * n * 32 words: cell (i, j) starts at word (i * n + j) * 32, its word a is
  * row a, and bit b of that says that reading a of field i goes with reading b of field j.
  *
- * Link with target/staticlib/libcapi.a (tools/build writes it), for x86-64 Linux.
+ * Link with target/staticlib/libcapi.a (tools/build writes it), for x86-64 Linux on
+ * processors of level v2 (with SSE4.2 and POPCNT).
  */
 #ifndef FRAJQOTTA_H
 #define FRAJQOTTA_H

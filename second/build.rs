@@ -20,10 +20,5 @@ fn main() {
     println!("cargo:rerun-if-changed={}", archive.display());
     for bin in ["compare", "bench"] {
         println!("cargo:rustc-link-arg-bin={bin}={}", archive.display());
-        // A static library made without std brings a panic handler of its own
-        // beside std's; the linker is to take the first and not to mind.
-        if env::var("CARGO_CFG_TARGET_OS").is_ok_and(|os| os == "linux") {
-            println!("cargo:rustc-link-arg-bin={bin}=-Wl,-z,muldefs");
-        }
     }
 }
