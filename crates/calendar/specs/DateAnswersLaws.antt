@@ -1,5 +1,5 @@
 -- When reading a date text answers what, and that its answer is determined.
-use Rattle.std.specs.Prelude.{◌≡◌, refl, ◌↔◌, ◌⊎◌, Bool, true, false, cond, ℕ, ◌≤◌, ◌<◌, T, length, get_or, take}
+use Rattle.std.specs.Prelude.{◌≡◌, refl, ◌↔◌, ◌⊎◌, Bool, true, false, cond, ℕ, ◌≤◌, ◌<◌, T, length, get_or, take, Result, Ok, Err}
 use Rattle.std.proofs.Common.{sym, ap, ◌∙◌, inl, inr, arith}
 use mathlib.Core.List.Memᴰ
 use mathlib.Core.List.{List, [], ◌∷◌, Memᴰ}
@@ -9,15 +9,13 @@ use Rattle.refusal.specs.declared.Refusal.{Refusal}
 use Rattle.refusal.specs.declared.Refusal.TheVariants.{Shapeless, Unreal}
 use Rattle.refusal.specs.Said.{Said, says, refused}
 use Rattle.refusal.specs.RefusalLaws.{numbered}
-use Rattle.refusal.proofs.Determined.{refused_determines}
-use Rattle.calendar.specs.declared.DateAnswer.{DateAnswer}
-use Rattle.calendar.specs.declared.DateAnswer.TheVariants.{Days, Refused}
-use Rattle.calendar.specs.declared.DateRead.{DateRead}
+use Rattle.refusal.proofs.Determined.{refused_determines, answer_determined}
+use Rattle.calendar.specs.declared.Days.{Days}
 use Rattle.calendar.specs.Calendar.{last_day}
 use Rattle.calendar.specs.Numbering.{day_upto}
-use Rattle.calendar.specs.DateText.{shaped_date, days_of, shown, means, Writing, Reading}
+use Rattle.calendar.specs.DateText.{dates_most, shaped_date, days_of, shown, means, Writing, Reading}
 use Rattle.calendar.specs.DateTextLaws.{shaped_iff, shaped_means, means_shaped, means_iff}
-use Rattle.calendar.specs.DateAnswers.{padded, said_date, days_say, date_says, ReadsDate}
+use Rattle.calendar.specs.DateAnswers.{padded, days_in, days_say, date_says, ReadsDate}
 use Rattle.calendar.specs.DaysFound.{Answers, Refuses}
 
 -- what is said, by cases of the shape and of the list of days
@@ -86,7 +84,7 @@ padded_at k l i h = get_or-append l _ 0 i h
 
 -- how an answer is reached
 
-pub reads_shaped : (sep : ℕ → Bool) (text : List ℕ) (r : DateRead) → T (shaped_date sep text) → Answers (days_of (shown text)) r → ReadsDate sep text r
+pub reads_shaped : (sep : ℕ → Bool) (text : List ℕ) (r : Result Days Refusal) → T (shaped_date sep text) → Answers (days_of (shown text)) r → ReadsDate sep text r
 unfolding date_says
 reads_shaped sep text r h a = record {
   said = rw (shaped_means sep text h) (a.said ∙ go (shaped_date sep text) h);
@@ -97,7 +95,7 @@ reads_shaped sep text r h a = record {
     go true t = refl
     go false t = absurd t
 
-pub reads_shapeless : (sep : ℕ → Bool) (text : List ℕ) (r : DateRead) → shaped_date sep text ≡ false → Refuses Shapeless r → ReadsDate sep text r
+pub reads_shapeless : (sep : ℕ → Bool) (text : List ℕ) (r : Result Days Refusal) → shaped_date sep text ≡ false → Refuses Shapeless r → ReadsDate sep text r
 unfolding date_says means
 reads_shapeless sep text r e a = record { said = rw e a.said; days = rw e a.days }
 
@@ -113,26 +111,26 @@ tells_refusal true [] q e = inr (tt, refl, refused_determines q Unreal e)
 tells_refusal true (x ∷ l) q e = absurd (omega (arith, ap (λ (s : Said). s.state) e, numbered q))
 tells_refusal false l q e = inl (λ t. t, refused_determines q Shapeless e)
 
--- an answer of c days: the text has the shape, and means so many
-pub reads_days : (sep : ℕ → Bool) (text : List ℕ) (r : DateRead) → ReadsDate sep text r → (c : ℕ) → r.answer ≡ Days c → T (shaped_date sep text) × (c ≡ length (means sep text)) × (1 ≤ c)
+-- an answer of days: the text has the shape, and means so many, and these
+pub reads_days : (sep : ℕ → Bool) (text : List ℕ) (r : Result Days Refusal) → ReadsDate sep text r → (d : Days) → r ≡ Ok d → T (shaped_date sep text) × (d.count ≡ length (means sep text)) × (1 ≤ d.count) × (d.days ≡ padded dates_most (means sep text))
 unfolding date_says
-reads_days sep text r h c e = tells_days (shaped_date sep text) (means sep text) c (rw e at h.said)
+reads_days sep text r h d e =
+    let t = tells_days (shaped_date sep text) (means sep text) d.count (rw e at h.said) in
+    (t.0, t.1, t.2, rw e at h.days)
 
 -- a refusal: 19 without the shape, 20 with it and no day
-pub reads_refused : (sep : ℕ → Bool) (text : List ℕ) (r : DateRead) → ReadsDate sep text r → (q : Refusal) → r.answer ≡ Refused q → ((T (shaped_date sep text) → ⊥) × (q ≡ Shapeless)) ⊎ (T (shaped_date sep text) × (means sep text ≡ []) × (q ≡ Unreal))
+pub reads_refused : (sep : ℕ → Bool) (text : List ℕ) (r : Result Days Refusal) → ReadsDate sep text r → (q : Refusal) → r ≡ Err q → ((T (shaped_date sep text) → ⊥) × (q ≡ Shapeless)) ⊎ (T (shaped_date sep text) × (means sep text ≡ []) × (q ≡ Unreal))
 unfolding date_says
 reads_refused sep text r h q e = tells_refusal (shaped_date sep text) (means sep text) q (rw e at h.said)
 
--- an answer is determined by what it says
+-- an answer is determined by what it says and its days
 
-said_determines : (a b : DateAnswer) → said_date a ≡ said_date b → a ≡ b
-said_determines (Days c) (Days d) e = ap Days (ap (λ (s : Said). get_or s.values 0 0) e)
-said_determines (Days c) (Refused r) e = absurd (omega (arith, ap (λ (s : Said). s.state) e, numbered r))
-said_determines (Refused r) (Days d) e = absurd (omega (arith, ap (λ (s : Said). s.state) e, numbered r))
-said_determines (Refused r) (Refused q) e = ap Refused (refused_determines r q e)
+-- two lists of days alike
+same_days : {d e : Days} → d.count ≡ e.count → d.days ≡ e.days → d ≡ e
+same_days p q = λ i. record { count = p i; days = q i }
 
-pub reads_unique : (sep : ℕ → Bool) (text : List ℕ) (r s : DateRead) → ReadsDate sep text r → ReadsDate sep text s → r ≡ s
-reads_unique sep text r s a b = λ i. record {
-  answer = said_determines r.answer s.answer (a.said ∙ sym b.said) i;
-  days = (a.days ∙ sym b.days) i;
-}
+pub reads_unique : (sep : ℕ → Bool) (text : List ℕ) (r s : Result Days Refusal) → ReadsDate sep text r → ReadsDate sep text s → r ≡ s
+reads_unique sep text r s a b = answer_determined (λ d. says 0 (d.count ∷ [])) (λ d. refl) r s one (a.said ∙ sym b.said)
+  where
+    one : (d e : Days) → r ≡ Ok d → s ≡ Ok e → says 0 (d.count ∷ []) ≡ says 0 (e.count ∷ []) → d ≡ e
+    one d e p q h = same_days (ap (λ (x : Said). get_or x.values 0 0) h) (sym (ap days_in p) ∙ a.days ∙ sym b.days ∙ ap days_in q)

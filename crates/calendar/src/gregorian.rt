@@ -1,4 +1,5 @@
-// The Gregorian calendar as ISO 8601 uses it, and its days numbered from 1 January 2000.
+// The Gregorian calendar as ISO 8601 uses it, and its days numbered from 1 January 2000. Year, month and day go as three numbers: a
+// text's pairs are each of the three in turn, and a struct of them would be made at each call and taken apart in it.
 ghost use Rattle.std.specs.Prelude.{◌≡◌, ◌+◌, ◌-◌, ◌≤◌};
 ghost use Rattle.theory.specs.Bound.{sum};
 ghost use Rattle.calendar.specs.Calendar.{first_year, last_year, date, leap, month_length, year_length, real, OfCentury, day_of};
@@ -9,6 +10,7 @@ pub(crate) const FIRST_YEAR: u32 = 2000;
 pub(crate) const LAST_YEAR: u32 = 2099;
 
 // Every fourth year, of the hundredth years every fourth.
+#[tactic(auto, unfolding(crate::specs::Calendar::leap))]
 fn is_leap(y: u32) -> bool
     ensures { result ≡ leap y }
 {
@@ -16,6 +18,7 @@ fn is_leap(y: u32) -> bool
 }
 
 // The days of a month; 0 where `m` is no month.
+#[tactic(auto, using(crate::specs::CalendarLaws::month_over), unfolding(crate::specs::Calendar::month_length, crate::specs::Calendar::months))]
 fn month_length(y: u32, m: u32) -> u32
     ensures { result ≡ month_length y m }
 {
@@ -28,10 +31,11 @@ fn month_length(y: u32, m: u32) -> u32
 }
 
 // The month has such a day.
+#[tactic(auto, unfolding(crate::specs::Calendar::real))]
 pub(crate) fn is_real(y: u32, m: u32, d: u32) -> bool
     ensures { result ≡ real (date y m d) }
 {
-    1 <= d && d <= month_length(y, m)
+    (1..=month_length(y, m)).contains(&d)
 }
 
 // Of the years before `y`, every fourth is a leap year from the first on.
@@ -49,10 +53,8 @@ fn months_before(y: u32, m: u32) -> u32
     ensures { result ≡ sum m (month_length y) }
 {
     let mut days = 0;
-    let mut k = 1;
-    while k < m {
+    for k in 1..m {
         days += month_length(y, k);
-        k += 1;
     }
     days
 }

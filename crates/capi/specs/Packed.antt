@@ -1,5 +1,7 @@
 -- An answer as one number of 64 bits, as it goes over C: a state of 8 bits, a second number of 8, three values of 16.
-use Rattle.std.specs.Prelude.{cond, List, [], ◌∷◌, ℕ, ◌+◌, ◌*◌, ◌/◌, ◌%◌, eqb, length, get_or}
+use Rattle.std.specs.Prelude.{cond, List, [], ◌∷◌, ℕ, ◌+◌, ◌*◌, ◌/◌, ◌%◌, eqb, length, get_or, Result, Ok, Err}
+use Rattle.refusal.specs.declared.Refusal.{Refusal}
+use Rattle.refusal.specs.Refusals.{number, place}
 use Rattle.refusal.specs.Said.{Said}
 
 -- the five numbers side by side, the lowest bits first
@@ -25,6 +27,11 @@ wide w = w ∷ w / 65536 ∷ []
 -- a result as `f` parts its values; a refusal with the count of its place's values, and these
 abbrev pub packed_said : (List ℕ → Parts) → Said → ℕ
 packed_said f s = cond (eqb s.state 0) (packed 0 (f s.values)) (packed s.state (parts (length s.values) s.values))
+
+-- an answer: a result as its value says and parts it, a refusal with the count of its place's values, and these
+abbrev pub packed_answer : {A : Type 0} → (A → Said) → (A → List ℕ → Parts) → Result A Refusal → ℕ
+packed_answer say part (Ok x) = packed_said (part x) (say x)
+packed_answer say part (Err r) = packed (number r) (parts (length (place r)) (place r))
 
 -- what each function's result parts into
 

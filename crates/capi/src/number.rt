@@ -1,11 +1,11 @@
 // One number of 64 bits from its parts.
-ghost use Rattle.std.specs.Prelude.{◌≡◌, [], ◌∷◌, ◌%◌, length};
+ghost use Rattle.std.specs.Prelude.{◌≡◌, ◌%◌, length};
 ghost use Rattle.refusal.specs.Refusals.{number, place};
 ghost use Rattle.capi.specs.Packed.{joined, parts, packed};
 
 use refusal::Refusal;
 
-// The lowest 8 bits.
+// The lowest 8 bits. What is higher is cut, as C is told (`parts`), so this is no `TryFrom`.
 fn byte(v: usize) -> u8
     ensures { result ≡ v % 256 }
 {
@@ -20,6 +20,7 @@ fn half(v: usize) -> u16
 }
 
 // The parts side by side, the lowest bits first.
+#[tactic(auto, unfolding(crate::specs::Packed::joined))]
 fn join(state: u8, second: u8, x: u16, y: u16, z: u16) -> u64
     ensures { result ≡ joined state second x y z }
 {
@@ -28,9 +29,10 @@ fn join(state: u8, second: u8, x: u16, y: u16, z: u16) -> u64
 }
 
 // A state, a second number and three values.
-pub fn pack(state: u8, second: usize, x: usize, y: usize, z: usize) -> u64
-    ensures { result ≡ packed state (parts second (x ∷ y ∷ z ∷ [])) }
+pub fn pack(state: u8, second: usize, values: [usize; 3]) -> u64
+    ensures { result ≡ packed state (parts second values) }
 {
+    let [x, y, z] = values;
     join(state, byte(second), half(x), half(y), half(z))
 }
 
@@ -39,12 +41,5 @@ pub fn refused(r: Refusal) -> u64
     ensures { result ≡ packed (number r) (parts (length (place r)) (place r)) }
 {
     let printed = refusal::in_numbers(r);
-    let values = printed.values;
-    pack(
-        printed.number,
-        printed.count,
-        values[0],
-        values[1],
-        values[2],
-    )
+    pack(printed.number, printed.count, printed.values)
 }

@@ -56,8 +56,6 @@ module _ (n : ℕ) (t taken : List ℕ) (f : ℕ) where
   unfolding fitting all
   fitted_more g w r k h e = record {
     upto = omega arith;
-    is = rw add-one (e ∙ pack_same 32 _ _ (λ b l. ap (λ (x : Bool). x && (free (choice_of taken g) || rel n t g f (choice_of taken g) b)) (ap (λ (x : ℕ). bit x b) k.is ∙ bit-pack 32 (fitting g (rel n t) (choice_of taken) f) b l) ∙ and_assoc (own (rel n t) f b) _ _));
+    is = rw add-one (e ∙ pack_same 32 _ _ (λ b l. ap (λ (x : Bool). x && (free (choice_of taken g) || rel n t g f (choice_of taken g) b))
+        (ap (λ (x : ℕ). bit x b) k.is ∙ bit-pack 32 (fitting g (rel n t) (choice_of taken) f) b l) ∙ and_assoc (own (rel n t) f b) _ _));
   }
-
-  pub fitted_end : (g w : ℕ) → Fitted n t taken f g w → n ≤ g → w ≡ pack readings_most (fitting n (rel n t) (choice_of taken) f)
-  fitted_end g w k h = let e : g ≡ n = omega (arith, k.upto) in k.is ∙ ap (λ (x : ℕ). pack 32 (fitting x (rel n t) (choice_of taken) f)) e

@@ -1,5 +1,5 @@
 -- What the walk keeps: the fields passed have the lowest reading that was left, the others still have their fixed choices.
-use mathlib.Core.Path.{◌≡◌, refl, sym, ap, ◌∙◌, subst}
+use mathlib.Core.Path.{◌≡◌, sym, ap, ◌∙◌, subst}
 use mathlib.Core.Logic.{inl, inr}
 use mathlib.Core.Bool.{Bool, not, ◌||◌}
 use mathlib.Core.List.{List}
@@ -19,8 +19,7 @@ use Rattle.theory.proofs.ChoiceLaws.{Left, left_e, left_i, left_same}
 use Rattle.theory.proofs.Theorems.{walk_finds_a_reading, walk_ends_first}
 use Rattle.words.specs.Word.{bit, pack}
 use Rattle.words.specs.WordLaws.{bit-pack}
-use Rattle.table.specs.Layout.{Sized, size_of}
-use Rattle.table.specs.Shape.{GoodTable}
+use Rattle.table.specs.Layout.{size_of}
 use Rattle.settle.specs.Settle.{rel_of}
 use Rattle.choose.specs.Choosing.{choice_of, Ready, Agreed, FirstOf}
 use Rattle.choose.specs.Taken.{Readings, own, fitting}
@@ -36,9 +35,6 @@ LeftOf sizes t fixed x = Left (length sizes) by_number (rel_of sizes t) (choice_
 
 abbrev fitting_of : List ℕ → List ℕ → List ℕ → ℕ → ℕ → Bool
 fitting_of sizes t x = fitting (length sizes) (rel_of sizes t) (choice_of x)
-
-pub sized : {sizes t : List ℕ} → GoodTable sizes t → Sized (length sizes) t
-sized g = record { few = g.good.few; long = g.long }
 
 -- a reading's number is a byte
 pub lowest_byte : {v : ℕ} (w : ℕ) → v ≡ first 32 (bit w) → v < 2 ^ 8
@@ -120,9 +116,6 @@ module _ (sizes t fixed : List ℕ) (room : ℕ) (ready : Ready sizes t fixed ro
 
       f : (first (size_of sizes m) p ≤ b.0) × T (p (first (size_of sizes m) p))
       f = first_found (size_of sizes m) p b.0 b.1 b.2
-
-  pub walking_start : Walking sizes t fixed fixed 0
-  walking_start = record { upto = omega arith; long = ready.held; done = λ p h. absurd (omega arith); ahead = λ i h. refl }
 
   pub walking_more : {x : List ℕ} {m : ℕ} (w v : ℕ) → Walking sizes t fixed x m → m < length sizes → w ≡ pack readings_most (fitting_of sizes t x m)
       → v ≡ first readings_most (bit w) → Walking sizes t fixed (set x m v) (m + 1)

@@ -45,14 +45,16 @@ check-whole {n} {size} {R} w = check_of rows none (check-first (search_rows n) b
     rows : ((p : ℕ) → p < search_rows n → T (broken p) → ⊥) → WholeRows n size R
     rows f = whole_rows_e w (λ i j a hi hj ha. elim (known (whole (stands size R j) (R i j a))) [
       | inl t ↦ t
-      | inr t ↦ absurd (f (row_number n i j a) (number_in n i j a hi hj ha) (subst (λ (r : Row). T (at (broken_row size R) r)) (sym (search_is_table n (row_number n i j a) ∙ row_of_number n i j a hj ha)) t))
+      | inr t ↦ absurd (f (row_number n i j a) (number_in n i j a hi hj ha) (subst (λ (r : Row). T (at (broken_row size R) r))
+          (sym (search_is_table n (row_number n i j a) ∙ row_of_number n i j a hj ha)) t))
     ])
 
     none : WholeRows n size R → (p : ℕ) → p < search_rows n → T (broken p) → ⊥
     none f p h t =
         let r = row_in n p h in
         let s : T (at (broken_row size R) (table_row n p)) = subst (λ (q : Row). T (at (broken_row size R) q)) (search_is_table n p) t in
-        not_e (whole (stands size R (table_row n p).j) (R (table_row n p).i (table_row n p).j (table_row n p).a)) s (whole_i _ _ (f (table_row n p).i (table_row n p).j (table_row n p).a r.first r.second))
+        not_e (whole (stands size R (table_row n p).j) (R (table_row n p).i (table_row n p).j (table_row n p).a)) s
+        (whole_i _ _ (f (table_row n p).i (table_row n p).j (table_row n p).a r.first r.second))
 
 pub check_fixed : (sizes fixed : List ℕ) → Check ((f : ℕ) → f < length sizes → Fixed (choice_of fixed) f → choice_of fixed f < size_of sizes f) (after_fixed sizes fixed)
 unfolding after_fixed
@@ -97,5 +99,6 @@ check_ready sizes t fixed room =
     (λ _. check_fixed sizes fixed))))
 
 -- 1 to 12 refuse exactly what is not ready or not agreed
-pub check_choose : (sizes t fixed : List ℕ) (room : ℕ) → Check (Ready sizes t fixed room × Agreed sizes t fixed) (λ rest. after_ready sizes t fixed room (after_clash (length sizes) (rel_of sizes t) (choice_of fixed) rest))
+pub check_choose : (sizes t fixed : List ℕ) (room : ℕ) → Check (Ready sizes t fixed room × Agreed sizes t fixed)
+    (λ rest. after_ready sizes t fixed room (after_clash (length sizes) (rel_of sizes t) (choice_of fixed) rest))
 check_choose sizes t fixed room = both {A = after_ready sizes t fixed room} (check_ready sizes t fixed room) (λ r. check-clash r.good.formed (choice_of fixed))

@@ -1,4 +1,5 @@
-// The walk: field by field the lowest reading that goes with all that is fixed and all that is chosen so far.
+// The walk: field by field the lowest reading that goes with all that is fixed and all that is chosen so far. A table and its number
+// of fields are two parameters here, since docs/PROMISES.md names `own_word` and the functions of `table` that it calls.
 ghost use Rattle.std.specs.Prelude.{◌≡◌, ◌&&◌, ◌||◌, ◌<◌, length};
 ghost use Rattle.theory.specs.Limits.{readings_most};
 ghost use Rattle.theory.specs.Choice.{free};
@@ -9,7 +10,7 @@ ghost use Rattle.choose.specs.Taken.{Small, Readings, own, fitting};
 
 use table::{cell, row_word};
 
-// A choice that leaves its field free.
+// A choice that leaves its field free: the number is FQ_FREE of the C interface, which gives and takes a byte a field.
 pub const FREE: u8 = 255;
 
 // The readings of field f that go with a reading of f: those that it keeps.
@@ -38,10 +39,8 @@ fn left_word(table: &[u32], n: usize, taken: &[u8], f: usize) -> u32
     ensures { result ≡ pack readings_most (fitting n (rel n table.now) (choice_of taken.now) f) }
 {
     let mut w = own_word(table, n, f);
-    let mut g = 0;
-    while g < n {
-        w = going_with(w, table, n, g, f, taken[g]);
-        g += 1;
+    for (g, v) in taken.iter().enumerate() {
+        w = going_with(w, table, n, g, f, *v);
     }
     w
 }
@@ -52,9 +51,7 @@ pub fn take_lowest(sizes: &[u8], table: &[u32], answer: &mut [u8])
     ensures { FirstOf sizes.now table.now answer.old answer.new }
 {
     let n = sizes.len();
-    let mut f = 0;
-    while f < n {
+    for f in 0..n {
         answer[f] = words::lowest(left_word(table, n, answer, f)) as u8;
-        f += 1;
     }
 }

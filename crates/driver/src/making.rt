@@ -1,101 +1,50 @@
-// What a script does to sizes and a table.
-ghost use Rattle.std.specs.Prelude.{◌<◌, ◌≤◌, ◌≡◌, length};
+// The tables that a script makes anew.
+ghost use Rattle.std.specs.Prelude.{◌≡◌, ◌<◌, ◌≤◌, [], length, min, replicate};
+ghost use Rattle.table.specs.Layout.{table_length};
 
+use arrayvec::ArrayVec;
 use table::{FIELDS_MOST, READINGS_MOST};
-use vectors::bytes;
-use vectors::line::Args;
 
-// No pair is allowed.
-pub fn clear(table: &mut [u32]) {
-    let mut p = 0;
-    while p < table.len() {
-        table[p] = 0;
-        p += 1;
-    }
-}
+// One field more than a table has, so that a script can make too long a table.
+const FIELDS_ROOM: usize = FIELDS_MOST + 1;
 
-pub fn put_word(table: &mut [u32], at: u64, word: u64) {
-    if at < table.len() as u64 {
-        table[at as usize] = (word % 4294967296) as u32;
-    }
-}
+pub const WORDS_ROOM: usize = FIELDS_ROOM * FIELDS_ROOM * READINGS_MOST;
 
-// Row a of cell (i, j) where everything is allowed.
-fn full_row(sizes: &[u8], i: usize, j: usize, a: u32) -> u32
-    requires { (i < length sizes.now) × (j < length sizes.now) × (a < 32) }
+pub type Words = ArrayVec<u32, WORDS_ROOM>;
+
+// So many words, as far as there is room; no pair is allowed.
+pub fn cleared(words: usize) -> Words
+    ensures { result.items ≡ replicate (min words WORDS_ROOM) 0 }
 {
-    if a >= table::field_size(sizes, i) {
-        return 0;
+    let mut table = ArrayVec::new();
+    for _ in 0..words.min(WORDS_ROOM) {
+        let _ = table.try_push(0);
     }
-    if i == j {
-        return words::with_bit(0, a);
-    }
-    words::below(table::field_size(sizes, j))
+    table
 }
 
-// Word p of a table where everything is allowed.
-fn full_word(sizes: &[u8], n: usize, p: usize) -> u32
-    requires { n ≡ length sizes.now }
+// Everything is allowed, diagonals full. There is no table of too many fields.
+pub fn full(sizes: &[u8]) -> Words
+    ensures none { FIELDS_MOST < length sizes.now → result.items ≡ [] }
+    ensures words { length sizes.now ≤ FIELDS_MOST → length result.items ≡ table_length (length sizes.now) }
 {
-    if n == 0 {
-        return 0;
+    let mut table = ArrayVec::new();
+    if sizes.len() > FIELDS_MOST {
+        return table;
     }
-    let cell = p / 32;
-    let i = cell / n;
-    let j = cell % n;
-    if i >= n {
-        return 0;
+    for (i, size) in sizes.iter().enumerate() {
+        for (j, other) in sizes.iter().enumerate() {
+            for a in 0..READINGS_MOST as u32 {
+                let row = if a >= u32::from(*size) {
+                    0
+                } else if i == j {
+                    words::with_bit(0, a)
+                } else {
+                    words::below(u32::from(*other))
+                };
+                let _ = table.try_push(row);
+            }
+        }
     }
-    if j >= n {
-        return 0;
-    }
-    full_row(sizes, i, j, (p % 32) as u32)
-}
-
-// Everything is allowed, diagonals full.
-pub fn fill(sizes: &[u8], table: &mut [u32]) {
-    let n = sizes.len();
-    let mut p = 0;
-    while p < table.len() {
-        table[p] = full_word(sizes, n, p);
-        p += 1;
-    }
-}
-
-// Strikes a pair and its mirror, where there are such.
-pub fn strike(words: &mut [u32], n: usize, args: Args) {
-    let v = args.values;
-    if n > FIELDS_MOST {
-        return;
-    }
-    if words.len() != table::table_length(n) {
-        return;
-    }
-    let i = v[0] as usize;
-    let j = v[1] as usize;
-    let a = v[2] as usize;
-    let b = v[3] as usize;
-    if i >= n {
-        return;
-    }
-    if j >= n {
-        return;
-    }
-    if a >= READINGS_MOST {
-        return;
-    }
-    if b >= READINGS_MOST {
-        return;
-    }
-    table::strike(words, n, i, j, a, b);
-}
-
-// The opening table is what the table is now.
-pub fn copy(from: &[u32], to: &mut [u32]) {
-    let n = bytes::least(from.len(), to.len());
-    let mut p = 0;
-    while p < n {
-        to[p] = from[p];
-        p += 1;
-    }
+    table
 }

@@ -1,174 +1,133 @@
 // What a script has made so far, and one line of it.
-ghost use Rattle.std.specs.Prelude.{◌≡◌, length, OnErr};
+ghost use Rattle.std.specs.Prelude.{◌≡◌, [], OnErr};
+ghost use Rattle.arrayvec.specs.ArrayVec.{array_vec_len};
 
+use crate::making;
+use crate::making::{WORDS_ROOM, Words};
 use crate::verbs::Verb;
-use crate::{making, verbs};
+use arrayvec::ArrayVec;
 use std::io;
-use table::FIELDS_MOST;
-use vectors::bytes::{field, put_bytes, within};
-use vectors::line::Args;
+use table::{FIELDS_MOST, READINGS_MOST};
+use vectors::line::{Args, NUMBERS_MOST};
 use vectors::{asking, line, print};
 
-// How much of each buffer is set.
-#[derive(Clone, Copy)]
-pub struct Lengths {
-    pub sizes: usize,
-    pub table: usize,
-    pub opening: usize,
+#[derive(Drop)]
+pub struct State {
+    sizes: ArrayVec<u8, NUMBERS_MOST>,
+    table: Words,
+    opening: Words,
+    scratch: [u32; WORDS_ROOM],
 }
 
-// The words of a table of n fields; none where there are too many.
-fn words_of(n: usize) -> usize {
-    if n > FIELDS_MOST {
-        return 0;
+impl State {
+    pub fn new() -> State
+        ensures sizes { result.sizes.items ≡ [] }
+        ensures table { result.table.items ≡ [] }
+        ensures opening { result.opening.items ≡ [] }
+    {
+        State {
+            sizes: ArrayVec::new(),
+            table: ArrayVec::new(),
+            opening: ArrayVec::new(),
+            scratch: [0; WORDS_ROOM],
+        }
     }
-    table::table_length(n)
-}
 
-// A line that makes sizes or a table anew, and how much is set after it.
-fn remade(verb: Verb, args: Args, set: Lengths, sizes: &mut [u8], table: &mut [u32]) -> Lengths {
-    let values = args.values;
-    let count = args.count;
-    let long = set.table;
-    let opening = set.opening;
-    let n = within(set.sizes as u64, sizes.len());
-    match verb {
-        Verb::Sizes => {
-            put_bytes(sizes, args);
-            Lengths {
-                sizes: count,
-                table: long,
-                opening,
+    fn put_word(&mut self, at: usize, word: u64) {
+        if let Some(w) = self.table.get_mut(at) {
+            *w = (word % (1 << 32)) as u32;
+        }
+    }
+
+    // Strikes a pair and its mirror, where there are such.
+    fn strike(&mut self, i: usize, j: usize, a: usize, b: usize) {
+        let n = self.sizes.len();
+        if n <= FIELDS_MOST
+            && self.table.len() == table::table_length(n)
+            && i < n
+            && j < n
+            && a < READINGS_MOST
+            && b < READINGS_MOST
+        {
+            table::strike(&mut self.table, n, i, j, a, b);
+        }
+    }
+
+    // The opening table is what the table is now.
+    fn open(&mut self)
+        ensures sizes { self.new.sizes ≡ self.old.sizes }
+        ensures table { self.new.table ≡ self.old.table }
+        ensures opening { self.new.opening.items ≡ self.old.table.items }
+    {
+        self.opening.clear();
+        let _ = self.opening.try_extend_from_slice(&self.table);
+    }
+
+    // A line that makes or changes something. The arms call functions that take different things, so there is no table of closures.
+    fn make(&mut self, verb: Verb, args: &Args) {
+        match verb {
+            Verb::Sizes => self.sizes = args.bytes(),
+            Verb::Table => self.table = making::cleared(args.at(0).size()),
+            Verb::Full => self.table = making::full(&self.sizes),
+            Verb::Word => self.put_word(args.at(0).size(), args.at(1).value),
+            Verb::Strike => {
+                let [i, j, a, b] = [0, 1, 2, 3].map(|k| args.at(k).size());
+                self.strike(i, j, a, b);
             }
+            Verb::Opening => self.open(),
+            _ => {}
         }
-        Verb::Table => {
-            making::clear(table);
-            Lengths {
-                sizes: n,
-                table: within(values[0], table.len()),
-                opening,
+    }
+
+    // A line that asks something of a table as it is.
+    fn ask<P: Print>(&self, rt: &P, verb: Verb, args: &Args) -> io::Result<()> {
+        let field = args.at(0).size();
+        let other = args.at(1).size();
+        match verb {
+            Verb::Shape => asking::print_shape(rt, &self.sizes, &self.table),
+            Verb::Kept => asking::print_kept(rt, &self.sizes, &self.table, field),
+            Verb::Judge => asking::print_rows(rt, &self.sizes, &self.table),
+            Verb::Choose => asking::print_choice(rt, &self.sizes, &self.table, args),
+            Verb::Show => {
+                asking::print_cell(rt, &self.sizes, &self.opening, &self.table, field, other)
             }
+            _ => Ok(()),
         }
-        Verb::Full => {
-            let all = within(words_of(n) as u64, table.len());
-            making::fill(&sizes[0..n], &mut table[0..all]);
-            Lengths {
-                sizes: n,
-                table: all,
-                opening,
-            }
+    }
+
+    // A line that settles: the budget, and the length of scratch where it is not the table's.
+    fn settle<P: Print>(&mut self, rt: &P, args: &Args) -> io::Result<()>
+        ensures sizes { self.new.sizes ≡ self.old.sizes }
+        ensures table { array_vec_len self.new.table ≡ array_vec_len self.old.table }
+        ensures opening { self.new.opening ≡ self.old.opening }
+    {
+        let lent = args.numbers.get(1).map_or(self.table.len(), |n| n.size());
+        let budget = args.at(0).value;
+        // A part of a field's array is cut from a slice of the whole: in one step it gets no generated proof.
+        let scratch = &mut self.scratch[..];
+        let scratch = &mut scratch[..lent.min(WORDS_ROOM)];
+        asking::print_settling(rt, &self.sizes, &mut self.table, scratch, budget)
+    }
+
+    // One line: it makes, changes or asks, and what asks is printed with its answer. An error is of printing alone.
+    pub fn run_line<P: Print>(&mut self, rt: &P, text: &[u8]) -> io::Result<()>
+        ensures err_sizes { OnErr result (self.new.sizes ≡ self.old.sizes) }
+        ensures err_table { OnErr result (array_vec_len self.new.table ≡ array_vec_len self.old.table) }
+        ensures err_opening { OnErr result (self.new.opening ≡ self.old.opening) }
+    {
+        let args = line::numbers(text);
+        let Some(verb) = Verb::of(text) else {
+            return Ok(());
+        };
+        if !verb.asks() {
+            self.make(verb, &args);
+            return Ok(());
         }
-        _ => set,
-    }
-}
-
-// A line that changes a table.
-fn change(verb: Verb, args: Args, n: usize, table: &mut [u32], opening: &mut [u32]) {
-    let values = args.values;
-    match verb {
-        Verb::Word => making::put_word(table, values[0], values[1]),
-        Verb::Strike => making::strike(table, n, args),
-        Verb::Opening => making::copy(table, opening),
-        _ => {}
-    }
-}
-
-// A line that asks something of a table as it is.
-fn ask<'a, P: Print>(
-    rt: &P,
-    verb: Verb,
-    args: Args,
-    sizes: &[u8],
-    table: &'a [u32],
-    opening: &'a [u32],
-) -> io::Result<()> {
-    let values = args.values;
-    match verb {
-        Verb::Shape => asking::print_shape(rt, sizes, table),
-        Verb::Kept => asking::print_kept(rt, sizes, table, field(values[0])),
-        Verb::Judge => asking::print_rows(rt, sizes, table),
-        Verb::Choose => asking::print_choice(rt, sizes, table, args),
-        Verb::Show => {
-            let i = field(values[0]);
-            let j = field(values[1]);
-            asking::print_cell(rt, sizes, opening, table, i, j)
+        print::question(rt, text)?;
+        match verb {
+            Verb::Settle => self.settle(rt, &args)?,
+            _ => self.ask(rt, verb, &args)?,
         }
-        _ => Ok(()),
+        print::line_ends(rt)
     }
-}
-
-// A line that settles: the budget, and the length of scratch where it is not the table's.
-fn settle<P: Print>(
-    rt: &P,
-    args: Args,
-    sizes: &[u8],
-    table: &mut [u32],
-    scratch: &mut [u32],
-) -> io::Result<()>
-    ensures err_table { OnErr result (length table.new ≡ length table.old) }
-    ensures err_scratch { OnErr result (length scratch.new ≡ length scratch.old) }
-{
-    let values = args.values;
-    let mut asked = table.len() as u64;
-    if args.count > 1 {
-        asked = values[1];
-    }
-    let long = within(asked, scratch.len());
-    asking::print_settling(rt, sizes, table, &mut scratch[0..long], values[0])
-}
-
-fn asks(verb: Verb) -> bool {
-    match verb {
-        Verb::Shape => true,
-        Verb::Kept => true,
-        Verb::Judge => true,
-        Verb::Show => true,
-        Verb::Settle => true,
-        Verb::Choose => true,
-        _ => false,
-    }
-}
-
-// One line: it makes, changes or asks, and what asks is printed with its answer; how much is set after it.
-pub fn run_line<P: Print>(
-    rt: &P,
-    text: &[u8],
-    set: Lengths,
-    sizes: &mut [u8],
-    table: &mut [u32],
-    opening: &mut [u32],
-    scratch: &mut [u32],
-) -> io::Result<Lengths>
-    ensures err_sizes { OnErr result (sizes.new ≡ sizes.old) }
-    ensures err_table { OnErr result (length table.new ≡ length table.old) }
-    ensures err_opening { OnErr result (opening.new ≡ opening.old) }
-    ensures err_scratch { OnErr result (length scratch.new ≡ length scratch.old) }
-{
-    let verb = verbs::verb_of(text);
-    let args = line::numbers(text);
-    let n = within(set.sizes as u64, sizes.len());
-    let long = within(set.table as u64, table.len());
-    let kept = within(set.opening as u64, opening.len());
-    if asks(verb) {
-        print::text(rt, text)?;
-        print::text(rt, b":")?;
-        if let Verb::Settle = verb {
-            settle(rt, args, &sizes[0..n], &mut table[0..long], scratch)?;
-            print::line_ends(rt)?;
-            return Ok(set);
-        }
-        let opened = &opening[0..kept];
-        ask(rt, verb, args, &sizes[0..n], &table[0..long], opened)?;
-        print::line_ends(rt)?;
-        return Ok(set);
-    }
-    change(verb, args, n, &mut table[0..long], opening);
-    if let Verb::Opening = verb {
-        return Ok(Lengths {
-            sizes: n,
-            table: long,
-            opening: long,
-        });
-    }
-    Ok(remade(verb, args, set, sizes, table))
 }

@@ -1,5 +1,4 @@
-// What a line of a script asks for.
-use vectors::line::starts;
+// What a line of a script asks for. Each program has verbs and a table of its own, and this search is no longer than a call of one.
 
 #[derive(Clone, Copy)]
 pub enum Verb {
@@ -15,49 +14,37 @@ pub enum Verb {
     Show,
     Settle,
     Choose,
-    Nothing,
 }
 
-pub fn verb_of(line: &[u8]) -> Verb {
-    if starts(line, b"sizes") {
-        return Verb::Sizes;
-    }
-    if starts(line, b"table") {
-        return Verb::Table;
-    }
-    if starts(line, b"full") {
-        return Verb::Full;
-    }
-    if starts(line, b"word") {
-        return Verb::Word;
-    }
-    if starts(line, b"strike") {
-        return Verb::Strike;
-    }
-    if starts(line, b"opening") {
-        return Verb::Opening;
-    }
-    asked(line)
-}
+// The word that a line of each begins with.
+const WORDS: [(&str, Verb); 12] = [
+    ("sizes", Verb::Sizes),
+    ("table", Verb::Table),
+    ("full", Verb::Full),
+    ("word", Verb::Word),
+    ("strike", Verb::Strike),
+    ("opening", Verb::Opening),
+    ("shape", Verb::Shape),
+    ("kept", Verb::Kept),
+    ("judge", Verb::Judge),
+    ("show", Verb::Show),
+    ("settle", Verb::Settle),
+    ("choose", Verb::Choose),
+];
 
-fn asked(line: &[u8]) -> Verb {
-    if starts(line, b"shape") {
-        return Verb::Shape;
+impl Verb {
+    pub fn of(line: &[u8]) -> Option<Verb> {
+        WORDS
+            .iter()
+            .find(|(word, _)| line.starts_with(word.as_bytes()))
+            .map(|(_, verb)| *verb)
     }
-    if starts(line, b"kept") {
-        return Verb::Kept;
+
+    // It asks something, and the line is printed with the answer.
+    pub fn asks(self) -> bool {
+        matches!(
+            self,
+            Verb::Shape | Verb::Kept | Verb::Judge | Verb::Show | Verb::Settle | Verb::Choose
+        )
     }
-    if starts(line, b"judge") {
-        return Verb::Judge;
-    }
-    if starts(line, b"show") {
-        return Verb::Show;
-    }
-    if starts(line, b"settle") {
-        return Verb::Settle;
-    }
-    if starts(line, b"choose") {
-        return Verb::Choose;
-    }
-    Verb::Nothing
 }

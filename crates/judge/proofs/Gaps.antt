@@ -1,27 +1,36 @@
 -- The search for the first broken row: every row before the place reached is whole.
 use mathlib.Core.Path.{◌≡◌, sym, ap, subst, ◌∙◌}
-use mathlib.Core.Bool.{Bool, not, ◌&&◌, ◌||◌}
+use mathlib.Core.Bool.{Bool, cond, not, ◌&&◌, ◌||◌}
 use mathlib.Core.List.{List, [], ◌∷◌}
-use Prim.Native.Nat.{ℕ, ◌+◌, ◌*◌, ◌≤◌, ◌<◌, zero-le}
-use native.Mathlib.Nat.{zero-mul, add-mul, mul-le-mul_right}
+use Prim.Native.Nat.{ℕ, ◌+◌, ◌*◌, ◌≤◌, ◌<◌}
+use native.Mathlib.Nat.{mul-le-mul_right}
 use native.Mathlib.Omega.{arith}
 use lib.Dec.{T, ltb}
 use lib.ListN.{length, get_or}
+use borrow.Author.Tests.{lt-ltb, le-ltb}
 use Rattle.theory.specs.Limits.{readings_most}
-use Rattle.theory.specs.Bound.{all}
+use Rattle.theory.specs.Bound.{all, first}
 use Rattle.theory.specs.BoundLaws.{all_same}
 use Rattle.theory.specs.Rows.{stands, whole}
-use Rattle.refusal.specs.Said.{says}
+use Rattle.refusal.specs.Said.{Said, says}
 use Rattle.words.specs.Word.{bit, pack}
 use Rattle.words.specs.WordLaws.{bit-pack}
 use Rattle.table.specs.declared.layout.Row.{Row}
 use Rattle.table.specs.Layout.{rel, search_rows, search_row, row_number, at, size_of}
 use Rattle.table.specs.LayoutLaws.{cell_bit, row_of_number, search_is_table, number_in}
 use Rattle.table.specs.Post.{CellWords}
+use Rattle.table.specs.Checks.{at_first}
 use Rattle.table.specs.Shape.{row_place}
-use Rattle.table.proofs.Search.{Passed, passed_none, passed_one, passed_less, found, passed-all}
-use Rattle.table.proofs.Says.{first_said, first-passed}
+use Rattle.table.proofs.Search.{Passed, passed_one, passed_less, found, passed-all}
 use Rattle.judge.specs.Asked.{broken_row, at_first_broken}
+
+-- a search ends where the first is found, or having passed all
+
+pub first_said : (n : ℕ) (p : ℕ → Bool) (say : ℕ → Said) (rest : Said) {f : ℕ} → f ≡ first n p → f < n → say f ≡ at_first n p say rest
+first_said n p say rest {f} e h = ap say e ∙ sym (ap (λ (b : Bool). cond b (say (first n p)) rest) (lt-ltb (first n p) n (rw e at h)))
+
+pub first-passed : (n : ℕ) (p : ℕ → Bool) (say : ℕ → Said) (rest : Said) {f : ℕ} → f ≡ first n p → n ≤ f → rest ≡ at_first n p say rest
+first-passed n p say rest {f} e h = sym (ap (λ (b : Bool). cond b (say (first n p)) rest) (le-ltb (first n p) n (rw e at h)))
 
 -- rows that are the same below 32 are whole together
 whole_same : (stand stand' p q : ℕ → Bool) → ((b : ℕ) → b < readings_most → stand b ≡ stand' b) → ((b : ℕ) → b < readings_most → p b ≡ q b) → whole stand p ≡ whole stand' q
@@ -33,7 +42,8 @@ whole_same stand stand' p q s e =
     (λ b1 h1. rw (e b1 (omega arith), e b2 h2, s b (omega arith), e b (omega arith)))))
 
 -- the test of a row's word is the test of the row
-pub row-broken : (sizes t : List ℕ) (i j a : ℕ) {s : List ℕ} {stand w : ℕ} {r : Bool} → CellWords (length sizes) t i j s → w ≡ size_of sizes j → stand ≡ pack 32 (λ b. ltb b w) → a < readings_most → r ≡ whole (bit stand) (bit (get_or s a 0)) → not r ≡ broken_row (size_of sizes) (rel (length sizes) t) i j a
+pub row-broken : (sizes t : List ℕ) (i j a : ℕ) {s : List ℕ} {stand w : ℕ} {r : Bool} → CellWords (length sizes) t i j s → w ≡ size_of sizes j → stand ≡ pack 32 (λ b. ltb b w)
+    → a < readings_most → r ≡ whole (bit stand) (bit (get_or s a 0)) → not r ≡ broken_row (size_of sizes) (rel (length sizes) t) i j a
 unfolding broken_row stands
 row-broken sizes t i j a {s} {stand} {w} {r} c e m ha f =
     ap not (f ∙ whole_same (bit stand) (stands (size_of sizes) (rel (length sizes) t) j) (bit (get_or s a 0)) (rel (length sizes) t i j a)
@@ -45,55 +55,30 @@ abbrev broken : List ℕ → List ℕ → ℕ → Bool
 broken sizes t p = at (broken_row (size_of sizes) (rel (length sizes) t)) (search_row (length sizes) p)
 
 broken_at : (sizes t : List ℕ) (i j a : ℕ) → j < length sizes → a < readings_most → broken sizes t (row_number (length sizes) i j a) ≡ broken_row (size_of sizes) (rel (length sizes) t) i j a
-broken_at sizes t i j a hj ha = ap (at (broken_row (size_of sizes) (rel (length sizes) t))) (search_is_table (length sizes) (row_number (length sizes) i j a) ∙ row_of_number (length sizes) i j a hj ha)
+broken_at sizes t i j a hj ha = ap (at (broken_row (size_of sizes) (rel (length sizes) t)))
+    (search_is_table (length sizes) (row_number (length sizes) i j a) ∙ row_of_number (length sizes) i j a hj ha)
 
--- no row before these fields and this reading is broken
-pub record Readings (sizes t : List ℕ) (i j a : ℕ) : Type 0 where
-  pub upto : a ≤ readings_most
-  pub passed : Passed (search_rows (length sizes)) (broken sizes t) (row_number (length sizes) i j a)
+-- no row before place p of the search is broken
+abbrev pub NoneBroken : List ℕ → List ℕ → ℕ → Type 0
+NoneBroken sizes t p = Passed (search_rows (length sizes)) (broken sizes t) p
 
--- none before these fields
-pub record Columns (sizes t : List ℕ) (i j : ℕ) : Type 0 where
-  pub upto : j ≤ length sizes
-  pub passed : Passed (search_rows (length sizes)) (broken sizes t) ((i * length sizes + j) * readings_most)
-
--- none before this field
-pub record Fields (sizes t : List ℕ) (i : ℕ) : Type 0 where
-  pub upto : i ≤ length sizes
-  pub passed : Passed (search_rows (length sizes)) (broken sizes t) (i * length sizes * readings_most)
-
-pub fields_none : (sizes t : List ℕ) → Fields sizes t 0
-fields_none sizes t = record { upto = zero-le; passed = passed_less (0 * length sizes * readings_most) (passed_none (search_rows (length sizes)) (broken sizes t)) (omega (arith, zero-mul (length sizes))) }
-
-module _ {sizes t : List ℕ} {i : ℕ} where
-  pub columns_none : Fields sizes t i → Columns sizes t i 0
-  columns_none g = record { upto = zero-le; passed = passed_less ((i * length sizes + 0) * readings_most) g.passed (omega arith) }
-
-  pub readings_none : {j : ℕ} → Columns sizes t i j → Readings sizes t i j 0
-  readings_none {j} g = record { upto = zero-le; passed = passed_less (row_number (length sizes) i j 0) g.passed (omega arith) }
-
-  pub readings_more : {j a : ℕ} → Readings sizes t i j a → i < length sizes → j < length sizes → a < readings_most → (T (broken_row (size_of sizes) (rel (length sizes) t) i j a) → ⊥) → Readings sizes t i j (a + 1)
-  readings_more {j} {a} g hi hj ha n = record {
-    upto = omega arith;
-    passed = passed_less (row_number (length sizes) i j (a + 1)) (passed_one g.passed (number_in (length sizes) i j a hi hj ha) (λ x. n (subst T (broken_at sizes t i j a hj ha) x))) (omega arith);
-  }
-
-  pub columns_more : {j a : ℕ} → Readings sizes t i j a → j < length sizes → readings_most ≤ a → Columns sizes t i (j + 1)
-  columns_more {j} {a} g hj h = record { upto = omega arith; passed = passed_less ((i * length sizes + (j + 1)) * readings_most) g.passed (omega arith) }
-
-  pub fields_more : {j : ℕ} → Columns sizes t i j → i < length sizes → length sizes ≤ j → Fields sizes t (i + 1)
-  fields_more {j} g hi h = record { upto = omega arith; passed = passed_less ((i + 1) * length sizes * readings_most) g.passed (omega (arith, add-mul i 1 (length sizes))) }
+module _ (sizes t : List ℕ) (i : ℕ) where
+  pub none_more : (j a : ℕ) → NoneBroken sizes t (row_number (length sizes) i j a) → i < length sizes → j < length sizes → a < readings_most
+      → (T (broken_row (size_of sizes) (rel (length sizes) t) i j a) → ⊥) → NoneBroken sizes t (row_number (length sizes) i j (a + 1))
+  none_more j a g hi hj ha n = passed_less (row_number (length sizes) i j (a + 1))
+      (passed_one g (number_in (length sizes) i j a hi hj ha) (λ x. n (subst T (broken_at sizes t i j a hj ha) x))) (omega arith)
 
   -- the search ends at a broken row
-  pub broken-said : {j a : ℕ} → Readings sizes t i j a → i < length sizes → j < length sizes → a < readings_most → T (broken_row (size_of sizes) (rel (length sizes) t) i j a)
+  pub broken-said : (j a : ℕ) → NoneBroken sizes t (row_number (length sizes) i j a) → i < length sizes → j < length sizes → a < readings_most
+      → T (broken_row (size_of sizes) (rel (length sizes) t) i j a)
       → says 0 (i ∷ j ∷ a ∷ []) ≡ at_first_broken 0 (length sizes) (size_of sizes) (rel (length sizes) t) (says 0 [])
-  broken-said {j} {a} g hi hj ha x =
+  broken-said j a g hi hj ha x =
       ap (λ (r : Row). says 0 (row_place r)) (sym (search_is_table (length sizes) (row_number (length sizes) i j a) ∙ row_of_number (length sizes) i j a hj ha))
       ∙ first_said (search_rows (length sizes)) (broken sizes t) (λ p. says 0 (row_place (search_row (length sizes) p))) (says 0 [])
-      (found g.passed (number_in (length sizes) i j a hi hj ha) (subst T (sym (broken_at sizes t i j a hj ha)) x)) (number_in (length sizes) i j a hi hj ha)
+      (found g (number_in (length sizes) i j a hi hj ha) (subst T (sym (broken_at sizes t i j a hj ha)) x)) (number_in (length sizes) i j a hi hj ha)
 
   -- or at the end
-  pub whole-said : Fields sizes t i → length sizes ≤ i → says 0 [] ≡ at_first_broken 0 (length sizes) (size_of sizes) (rel (length sizes) t) (says 0 [])
+  pub whole-said : NoneBroken sizes t (i * length sizes * readings_most) → length sizes ≤ i → says 0 [] ≡ at_first_broken 0 (length sizes) (size_of sizes) (rel (length sizes) t) (says 0 [])
   whole-said g h =
       let e : length sizes * length sizes * 32 ≤ i * length sizes * 32 = mul-le-mul_right 32 (mul-le-mul_right (length sizes) h) in
-      first-passed (search_rows (length sizes)) (broken sizes t) (λ p. says 0 (row_place (search_row (length sizes) p))) (says 0 []) (passed-all g.passed e) e
+      first-passed (search_rows (length sizes)) (broken sizes t) (λ p. says 0 (row_place (search_row (length sizes) p))) (says 0 []) (passed-all g e) e

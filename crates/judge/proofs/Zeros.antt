@@ -1,19 +1,25 @@
 -- A search for a word that is not 0, and what its end says of the relation.
 use mathlib.Core.Path.{◌≡◌, refl, sym, ap, ap₂, subst, ◌∙◌}
-use mathlib.Core.Bool.{true, false, not}
-use mathlib.Core.List.{List}
-use mathlib.Core.Logic.{inl, inr}
-use Prim.Native.Nat.{ℕ, ◌+◌, ◌-◌, ◌%◌, ◌≤◌, ◌<◌, zero-le}
-use native.Mathlib.Nat.{not-suc-le-zero, lt_of_lt_of_le}
+use mathlib.Core.Bool.{Bool, true, false, not}
+use mathlib.Core.List.{List, []}
+use Prim.Native.Nat.{ℕ, zero, suc, ◌+◌, ◌*◌, ◌/◌, ◌%◌, ◌≤◌, ◌<◌, zero-le}
+use native.Mathlib.Nat.{not-suc-le-zero, lt_of_lt_of_le, le_refl}
+use native.Mathlib.Numerals.{add-one}
 use native.Mathlib.Omega.{arith}
 use borrow.Author.Count.{below_more}
 use lib.Bits.{bit_or, or_zero_l, or_add_and, and_le_l, and_le_r}
 use lib.Dec.{T, eqb, eqb→eq, eqb_refl}
-use lib.ListN.{length, get_or, take, drop, length-drop}
-use lib.Seq.{length-take-le, get_or-take, get_or-drop}
+use lib.ListN.{length, get_or, take}
+use lib.Seq.{take-length}
+use denote.Ref.{Bor}
+use denote.Param.Members.{Mut, Called}
+use Rattle.std.specs.Prelude.{Option, Some, None, IfSome, IsSomeAnd, IsTrue, MatchBool}
+use Rattle.std.specs.List.{fold, IsSubsliceAt}
+use Rattle.std.specs.Iterator.Runs.{Run, IsChunksExactRun, AllItemsGive, AnyItem, AnyItemGives}
+use Rattle.std.proofs.lemmas.List.Sums.{fold_more}
 use Rattle.theory.specs.Limits.{readings_most}
 use Rattle.theory.specs.Bound.{all}
-use Rattle.theory.specs.BoundLaws.{T_ext, all_i, all_e, not_e, lt_or_ge}
+use Rattle.theory.specs.BoundLaws.{T_ext, all_i, all_e, not_e}
 use Rattle.theory.specs.Reading.{holds, empty}
 use Rattle.theory.proofs.ReadingLaws.{holds_i, empty_i}
 use Rattle.words.specs.Word.{bit}
@@ -67,67 +73,77 @@ module _ {t : List ℕ} {p w : ℕ} (g : Gathered t p w) where
     clear = λ z. ap₂ bit_or (g.clear (record { none = λ q l. z.none q (omega arith) })) (z.none p (omega arith)) ∙ or_zero_l 0;
   }
 
-  pub gathered_all : length t ≤ p → eqb w 0 ≡ no_bit t
-  gathered_all h = T_ext (eqb w 0) (no_bit t) (λ x. subst T (zeros-all (g.none (eqb→eq w 0 x)) h) tt) (λ x. rw (g.clear (zeros_of t p g.upto x)) (eqb_refl 0))
+  gathered-done : length t ≤ p → eqb w 0 ≡ no_bit t
+  gathered-done h = T_ext (eqb w 0) (no_bit t) (λ x. subst T (zeros-all (g.none (eqb→eq w 0 x)) h) tt) (λ x. rw (g.clear (zeros_of t p g.upto x)) (eqb_refl 0))
 
--- cell after cell
+gathered_to : (t : List ℕ) (n : ℕ) → n ≤ length t → Gathered t n (fold bit_or 0 (take n t))
+gathered_to t zero h = gathered_none t
+gathered_to t (suc n) h =
+    let e = fold_more bit_or 0 t n 0 (omega arith) in
+    rw (← add-one, e) (gathered_more (gathered_to t n (omega arith)) (omega arith))
 
--- the words before p, where a cell starts, are 0
-pub record ZeroCells (t : List ℕ) (p : ℕ) : Type 0 where
-  pub starts : p % readings_most ≡ 0
-  pub zeros : Zeros t p
+pub gathered_all : (t : List ℕ) → eqb (fold bit_or 0 t) 0 ≡ no_bit t
+gathered_all t = rw take-length at (gathered-done (gathered_to t (length t) (le_refl (length t))) (le_refl (length t)))
 
-pub cells_none : (t : List ℕ) → ZeroCells t 0
-cells_none t = record { starts = refl; zeros = zeros_none t }
+-- cell after cell: a run over the chunks of a cell's length
 
-pub cells_room : {t : List ℕ} {p : ℕ} → ZeroCells t p → length t % readings_most ≡ 0 → p < length t → p + readings_most ≤ length t
-cells_room g e h = omega (arith, g.starts)
+module _ {S : Type 0} {steps : S → Option (Bor (List ℕ)) → S → Type 0} (p : Run steps) {n : ℕ} {xs t : List ℕ} (long : n ≡ readings_most) (same : xs ≡ t) (runs : IsChunksExactRun p n xs) where
+  cut : IsChunksExactRun p readings_most t
+  cut = rw (long, same) at runs
 
-pub cells_all : {t : List ℕ} {p : ℕ} → ZeroCells t p → length t ≤ p → true ≡ no_bit t
-cells_all g h = zeros-all g.zeros h
+  -- a chunk has the words of its place
+  at : (k : ℕ) (x : Bor (List ℕ)) → p.at k ≡ Some x → (length x.now ≡ readings_most) × (k * readings_most + readings_most ≤ length t) × IsSubsliceAt readings_most t (k * readings_most) x.now
+  at k x e = subst (λ (o : Option (Bor (List ℕ))). IfSome o (λ y. (length y.now ≡ readings_most) × (k * readings_most + readings_most ≤ length t)
+      × IsSubsliceAt readings_most t (k * readings_most) y.now)) e (cut.2 k)
 
--- the 32 words from p on, as they are lent
-abbrev part : List ℕ → ℕ → List ℕ
-part t p = take (p + readings_most - p) (drop p t)
-
-module _ (t : List ℕ) (p : ℕ) where
-  part-long : p + readings_most ≤ length t → length (part t p) ≡ readings_most
-  part-long h = length-take-le (p + readings_most - p) (drop p t) (omega (arith, length-drop p t)) ∙ omega arith
-
-  part_at : (q : ℕ) → q < readings_most → get_or (part t p) q 0 ≡ get_or t (p + q) 0
-  part_at q l = get_or-take (p + readings_most - p) (drop p t) q 0 (omega arith) ∙ get_or-drop p t q 0
-
-module _ {t : List ℕ} {p : ℕ} (g : ZeroCells t p) (m : length t % readings_most ≡ 0) (h : p < length t) (w : ℕ) (e : eqb w 0 ≡ no_bit (part t p)) where
-  long : length (part t p) ≡ readings_most
-  long = part-long t p (cells_room g m h)
-
-  pub cells_more : w ≡ 0 → ZeroCells t (p + readings_most)
-  cells_more z = record {
-    starts = omega (arith, g.starts);
-    zeros = record {
-      none = λ q l. elim (lt_or_ge q p) [
-        | inl k ↦ g.zeros.none q k
-        | inr k ↦
-            let c : p + (q - p) ≡ q = omega arith in
-            ap (λ (x : ℕ). get_or t x 0) (sym c)
-            ∙ sym (part_at t p (q - p) (omega arith))
-            ∙ (zeros_of (part t p) (length (part t p)) (omega arith) (subst T e (rw z (eqb_refl 0)))).none (q - p) (omega (arith, long))
-      ];
-    };
-  }
-
-  pub cells_end : (w ≡ 0 → ⊥) → false ≡ no_bit t
-  cells_end n = T_ext false (no_bit t) (λ x. absurd x) (λ x. n (eqb→eq w 0 (subst T (sym e) (none x))))
+  -- where none of them has a bit, no word is left that has one
+  none : length t % readings_most ≡ 0 → p.whole ≡ true → ((k : ℕ) (x : Bor (List ℕ)) → p.at k ≡ Some x → T (no_bit x.now)) → T (no_bit t)
+  none m w h = subst T (zeros-all {t = t} {p = length t} (record { none = word }) (le_refl (length t))) tt
     where
-      none : T (no_bit t) → T (no_bit (part t p))
-      none x = subst T (zeros-all {t = part t p} {p = length (part t p)} (record {
-        none = λ q l. part_at t p q (omega (arith, long)) ∙ (zeros_of t (length t) (omega arith) x).none (p + q) (omega (arith, long, cells_room g m h));
+      word : (q : ℕ) → q < length t → get_or t q 0 ≡ 0
+      word q l = go (p.at (q / readings_most)) refl
+        where
+          go : (o : Option (Bor (List ℕ))) → p.at (q / readings_most) ≡ o → get_or t q 0 ≡ 0
+          go None e =
+              let r = p.reads (q / readings_most) (record { ref_ptr = (0, 0); now = [] }) (omega (arith, cut.1 w)) in
+              let s = rw e at r in
+              cc
+          go (Some x) e =
+              let c = at (q / readings_most) x e in
+              let k : q / readings_most * readings_most + q % readings_most ≡ q = omega arith in
+              ap (λ (i : ℕ). get_or t i 0) (sym k)
+              ∙ sym (c.2.2 (q % readings_most) 0 (omega arith))
+              ∙ (zeros_of x.now (length x.now) (omega arith) (h (q / readings_most) x e)).none (q % readings_most) (omega (arith, c.0))
+
+  -- and where one has a bit, the table has
+  some : (k : ℕ) (x : Bor (List ℕ)) → p.at k ≡ Some x → T (no_bit t) → T (no_bit x.now)
+  some k x e z =
+      let c = at k x e in
+      subst T (zeros-all {t = x.now} {p = length x.now} (record {
+        none = λ q l. c.2.2 q 0 (omega (arith, c.0)) ∙ (zeros_of t (length t) (omega arith) z).none (k * readings_most + q) (omega (arith, c.0, c.1));
       }) (omega arith)) tt
+
+  -- so they are asked one by one
+  pub cells_asked : {F : Type 0} (g : Mut F (Bor (List ℕ) × Unit {0}) Bool) (f : F) → ((x : Bor (List ℕ)) (r : Bool) (f' : F) → Called g f (x, tt) r f' → (f' ≡ f) × (r ≡ no_bit x.now))
+      → length t % readings_most ≡ 0
+      → (b : Bool) → MatchBool b (IsTrue p.whole × AllItemsGive p g f true) (AnyItemGives p g f false) → b ≡ no_bit t
+  cells_asked {F} g f asks m true h = T_ext true (no_bit t) (λ _. none m h.0 (λ k x e.
+      let c : Called g f (x, tt) true f = subst (λ (o : Option (Bor (List ℕ))). IfSome o (λ y. Called g f (y, tt) true f)) e (h.1 (λ a r f' c. (asks a.0 r f' c).0) k) in
+      subst T (asks x true f c).1 tt)) (λ _. tt)
+  cells_asked {F} g f asks m false h = T_ext false (no_bit t) (λ x. absurd x) (hit (h (λ a r f' c. (asks a.0 r f' c).0)))
+    where
+      hit : AnyItem p (λ y. Called g f (y, tt) false f) → T (no_bit t) → ⊥
+      hit i z = go (p.at i.0) refl i.2
+        where
+          go : (o : Option (Bor (List ℕ))) → p.at i.0 ≡ o → IsSomeAnd o (λ y. Called g f (y, tt) false f) → ⊥
+          go None e a = a
+          go (Some x) e a = subst T (sym (asks x false f a).1) (some i.0 x e z)
 
 -- a table of words without a bit stands for no pair
 pub no_bit_empty : (n : ℕ) (t : List ℕ) → length t ≡ table_length n → Fit t → no_bit t ≡ empty n (rel n t)
 unfolding no_bit empty row
-no_bit_empty n t long fit = T_ext (no_bit t) (empty n (rel n t)) (λ x. empty_i n (rel n t) (none x)) (λ x. all_i (length t) (λ p. eqb (get_or t p 0) 0) (λ p l. rw (zero x p (rw long at l)) (eqb_refl 0)))
+no_bit_empty n t long fit = T_ext (no_bit t) (empty n (rel n t)) (λ x. empty_i n (rel n t) (none x))
+    (λ x. all_i (length t) (λ p. eqb (get_or t p 0) 0) (λ p l. rw (zero x p (rw long at l)) (eqb_refl 0)))
   where
     none : T (no_bit t) → (i j a b : ℕ) → i < n → j < n → T (rel n t i j a b) → ⊥
     none x i j a b hi hj s =
@@ -138,6 +154,7 @@ no_bit_empty n t long fit = T_ext (no_bit t) (empty n (rel n t)) (λ x. empty_i 
     zero : T (empty n (rel n t)) → (p : ℕ) → p < table_length n → get_or t p 0 ≡ 0
     zero x p l = zero_of 32 (get_or t p 0) (fit p) (λ b hb s.
         let r = row_in n p l in
-        not_e (holds (rel n t) (table_row n p).i (table_row n p).j) (all_e n (λ j. not (holds (rel n t) (table_row n p).i j)) (all_e n (λ i. all n (λ j. not (holds (rel n t) i j))) x (table_row n p).i r.first) (table_row n p).j r.second)
+        not_e (holds (rel n t) (table_row n p).i (table_row n p).j) (all_e n (λ j. not (holds (rel n t) (table_row n p).i j))
+        (all_e n (λ i. all n (λ j. not (holds (rel n t) i j))) x (table_row n p).i r.first) (table_row n p).j r.second)
         (holds_i (rel n t) (table_row n p).i (table_row n p).j (table_row n p).a b r.reading hb
         (subst T (sym (rel-bit n t (table_row n p).i (table_row n p).j (table_row n p).a b r.reading hb ∙ ap (λ (q : ℕ). bit (get_or t q 0) b) (number_of_row n p))) s)))

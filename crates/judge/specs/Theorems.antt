@@ -1,5 +1,5 @@
 -- The theorems of what is asked of a table, each beside the sentence of 01 that it carries.
-use Rattle.std.specs.Prelude.{◌≡◌, refl, ◌↔◌, ◌⊎◌, Bool, true, false, not, List, [], ◌∷◌, T}
+use Rattle.std.specs.Prelude.{◌≡◌, refl, ◌↔◌, ◌⊎◌, Bool, true, false, not, List, [], ◌∷◌, T, Option, Result}
 use Rattle.std.proofs.Common.{sym, subst, ◌∙◌, arith, lt-ltb, le-ltb, eq-eqb, ne_eqb}
 use Rattle.std.proofs.Math.Path.{ap}
 use Rattle.std.proofs.Math.Logic.{inl, inr}
@@ -16,17 +16,16 @@ use Rattle.theory.specs.Reading.{kept_count}
 use Rattle.theory.specs.Rows.{stands, Whole, whole, WholeRows}
 use Rattle.theory.proofs.RowsLaws.{whole_i, whole_e, whole_rows_e}
 use Rattle.refusal.specs.Said.{Said, says}
+use Rattle.refusal.specs.declared.Refusal.{Refusal}
 use Rattle.table.specs.declared.layout.Row.{Row}
 use Rattle.table.specs.Layout.{table_length, cell_start, cell_of, rel, search_rows, search_row, row_number, at, RowIn, size_of}
 use Rattle.table.specs.LayoutLaws.{row_in, number_in, row_of_number, search_is_table, cell_long}
 use Rattle.table.specs.Checks.{Refuses}
 use Rattle.table.specs.Shape.{row_place, GoodTable}
 use Rattle.table.specs.ShapeLaws.{check_shape}
-use Rattle.judge.specs.declared.keeping.KeptCount.{KeptCount}
-use Rattle.judge.specs.declared.judging.Rows.{Rows}
 use Rattle.judge.specs.declared.showing.Shown.{Shown}
-use Rattle.judge.specs.Answers.{said_kept, said_rows, said_shown}
-use Rattle.judge.specs.AnswerLaws.{some, kept-determined, rows-determined, shown-determined}
+use Rattle.judge.specs.Answers.{said_kept, said_row, said_rows, said_shown}
+use Rattle.judge.specs.AnswerLaws.{some, kept-determined, row-determined, rows-determined, shown-determined}
 use Rattle.judge.specs.Asked.{kept_says, broken_row, at_first_broken, rows_says, after_show, from_opening, show_says, shown_words, GoodShow}
 use Rattle.judge.specs.AskedLaws.{check_field, check_show}
 
@@ -78,13 +77,16 @@ module _ (n : ℕ) (size : ℕ → ℕ) (R : Rel) where
     unfolding broken_row Here
     whole-at q h f =
         let r = row_inside q h in
-        whole_e (stands size R (search_row n q).j) (R (search_row n q).i (search_row n q).j (search_row n q).a) (λ b s. (pair_small w (search_row n q).i (search_row n q).j (search_row n q).a b r.first r.second s).1)
-        (not-not (whole (stands size R (search_row n q).j) (R (search_row n q).i (search_row n q).j (search_row n q).a)) (not_i (not (whole (stands size R (search_row n q).j) (R (search_row n q).i (search_row n q).j (search_row n q).a))) f))
+        whole_e (stands size R (search_row n q).j) (R (search_row n q).i (search_row n q).j (search_row n q).a)
+        (λ b s. (pair_small w (search_row n q).i (search_row n q).j (search_row n q).a b r.first r.second s).1)
+        (not-not (whole (stands size R (search_row n q).j) (R (search_row n q).i (search_row n q).j (search_row n q).a))
+        (not_i (not (whole (stands size R (search_row n q).j) (R (search_row n q).i (search_row n q).j (search_row n q).a))) f))
 
     all_whole_lem : ((q : ℕ) → q < search_rows n → T (Broken q) → ⊥) → WholeRows n size R
     all_whole_lem f = whole_rows_e w (λ i j a hi hj ha.
         let e = search_is_table n (row_number n i j a) ∙ row_of_number n i j a hj ha in
-        whole_i _ _ (subst (λ (r : Row). Whole (stands size R r.j) (R r.i r.j r.a)) e (unfold Here in whole-at (row_number n i j a) (number_in n i j a hi hj ha) (f (row_number n i j a) (number_in n i j a hi hj ha)))))
+        whole_i _ _ (subst (λ (r : Row). Whole (stands size R r.j) (R r.i r.j r.a)) e
+        (unfold Here in whole-at (row_number n i j a) (number_in n i j a hi hj ha) (f (row_number n i j a) (number_in n i j a hi hj ha)))))
 
     none-broken : WholeRows n size R → (q : ℕ) → q < search_rows n → T (Broken q) → ⊥
     none-broken f q h t = let r = row_inside q h in broken-e q t (unfold Here in f (search_row n q).i (search_row n q).j (search_row n q).a r.first r.second)
@@ -100,17 +102,29 @@ module _ (n : ℕ) (size : ℕ → ℕ) (R : Rel) where
         go : (p < search_rows n) ⊎ (search_rows n ≤ p) → Searched n size R
         go (inl l) = inr (
           search_row n p,
-          record { place = p; within = l; is = refl; inside = row_inside p l; broken = broken-e p (first_holds (search_rows n) Broken l); before = λ q h. whole-at q (omega (arith, h, l)) (first_least (search_rows n) Broken q h) },
+          record {
+            place = p;
+            within = l;
+            is = refl;
+            inside = row_inside p l;
+            broken = broken-e p (first_holds (search_rows n) Broken l);
+            before = λ q h. whole-at q (omega (arith, h, l)) (first_least (search_rows n) Broken q h);
+          },
           ap (λ (b : Bool). cond b (says 0 (row_place (search_row n p))) (says 0 [])) (lt-ltb p (search_rows n) l),
         )
-        go (inr h) = inl (all_whole_lem ((first_none (search_rows n) Broken).0 (omega (arith, h, first-le (search_rows n) Broken))), ap (λ (b : Bool). cond b (says 0 (row_place (search_row n p))) (says 0 [])) (le-ltb p (search_rows n) h))
+        go (inr h) = inl (
+          all_whole_lem ((first_none (search_rows n) Broken).0 (omega (arith, h, first-le (search_rows n) Broken))),
+          ap (λ (b : Bool). cond b (says 0 (row_place (search_row n p))) (says 0 [])) (le-ltb p (search_rows n) h),
+        )
 
 -- the answer on a good table: nothing where the rows are whole, and else the first broken row
 pub rows_are_judged : (sizes t : List ℕ) → GoodTable sizes t → Judged (length sizes) (size_of sizes) (rel (length sizes) t) (rows_says sizes t)
 unfolding rows_says
-rows_are_judged sizes t g = subst (Judged (length sizes) (size_of sizes) (rel (length sizes) t)) (sym ((check_shape sizes t).passes g _)) (go (searched (length sizes) (size_of sizes) (rel (length sizes) t) g.formed))
+rows_are_judged sizes t g = subst (Judged (length sizes) (size_of sizes) (rel (length sizes) t)) (sym ((check_shape sizes t).passes g _))
+    (go (searched (length sizes) (size_of sizes) (rel (length sizes) t) g.formed))
   where
-    go : Searched (length sizes) (size_of sizes) (rel (length sizes) t) → Judged (length sizes) (size_of sizes) (rel (length sizes) t) (at_first_broken 0 (length sizes) (size_of sizes) (rel (length sizes) t) (says 0 []))
+    go : Searched (length sizes) (size_of sizes) (rel (length sizes) t) → Judged (length sizes) (size_of sizes) (rel (length sizes) t)
+        (at_first_broken 0 (length sizes) (size_of sizes) (rel (length sizes) t) (says 0 []))
     go (inl h) = subst (Judged (length sizes) (size_of sizes) (rel (length sizes) t)) (sym h.1) (all_whole h.0)
     go (inr h) = subst (Judged (length sizes) (size_of sizes) (rel (length sizes) t)) (sym h.2) (first_broken h.1)
 
@@ -124,11 +138,13 @@ whole_is_said_iff_whole sizes t g = (λ e. to seen (sym pass ∙ e), λ w. pass 
     seen : Searched (length sizes) (size_of sizes) (rel (length sizes) t)
     seen = searched (length sizes) (size_of sizes) (rel (length sizes) t) g.formed
 
-    to : Searched (length sizes) (size_of sizes) (rel (length sizes) t) → at_first_broken 0 (length sizes) (size_of sizes) (rel (length sizes) t) (says 0 []) ≡ says 0 [] → WholeRows (length sizes) (size_of sizes) (rel (length sizes) t)
+    to : Searched (length sizes) (size_of sizes) (rel (length sizes) t) → at_first_broken 0 (length sizes) (size_of sizes) (rel (length sizes) t) (says 0 []) ≡ says 0 []
+        → WholeRows (length sizes) (size_of sizes) (rel (length sizes) t)
     to (inl h) e = h.0
     to (inr h) e = absurd (some (sym e ∙ h.2))
 
-    from : Searched (length sizes) (size_of sizes) (rel (length sizes) t) → WholeRows (length sizes) (size_of sizes) (rel (length sizes) t) → at_first_broken 0 (length sizes) (size_of sizes) (rel (length sizes) t) (says 0 []) ≡ says 0 []
+    from : Searched (length sizes) (size_of sizes) (rel (length sizes) t) → WholeRows (length sizes) (size_of sizes) (rel (length sizes) t)
+        → at_first_broken 0 (length sizes) (size_of sizes) (rel (length sizes) t) (says 0 []) ≡ says 0 []
     from (inl h) w = h.1
     from (inr h) w = absurd (h.1.broken (w h.0.i h.0.j h.0.a h.1.inside.first h.1.inside.second))
 
@@ -160,7 +176,8 @@ module _ (sizes opening settled : List ℕ) (i j : ℕ) where
       inr (ap (λ (b : Bool). cond b Words []) (ne_eqb (show_says sizes opening settled i j).state 0 (λ z. omega (arith, e, z, r.1))), omega (arith, e, r.1))
 
   pub a_cell_is_shown : (show_says sizes opening settled i j).state ≡ 0
-      → (shown_words sizes opening settled i j ≡ cell_of (length sizes) (cond (from_opening (length sizes) settled) opening settled) i j) × (length (shown_words sizes opening settled i j) ≡ readings_most)
+      → (shown_words sizes opening settled i j ≡ cell_of (length sizes) (cond (from_opening (length sizes) settled) opening settled) i j)
+      × (length (shown_words sizes opening settled i j) ≡ readings_most)
   unfolding Words
   a_cell_is_shown e = elim (seen (check_show sizes opening settled i j).decides) [
     | inl h ↦ (h.0, ap length h.0 ∙ h.1)
@@ -171,26 +188,31 @@ module _ (sizes opening settled : List ℕ) (i j : ℕ) where
   pub no_words_iff_refused : (shown_words sizes opening settled i j ≡ []) ↔ (1 ≤ (show_says sizes opening settled i j).state)
   no_words_iff_refused = (λ e. to e (seen (check_show sizes opening settled i j).decides), λ h. from h (seen (check_show sizes opening settled i j).decides))
     where
-      to : shown_words sizes opening settled i j ≡ [] → ((shown_words sizes opening settled i j ≡ Words) × (length Words ≡ readings_most) × ((show_says sizes opening settled i j).state ≡ 0)) ⊎ ((shown_words sizes opening settled i j ≡ []) × (1 ≤ (show_says sizes opening settled i j).state)) → 1 ≤ (show_says sizes opening settled i j).state
+      to : shown_words sizes opening settled i j ≡ [] → ((shown_words sizes opening settled i j ≡ Words) × (length Words ≡ readings_most)
+          × ((show_says sizes opening settled i j).state ≡ 0)) ⊎ ((shown_words sizes opening settled i j ≡ []) × (1 ≤ (show_says sizes opening settled i j).state))
+          → 1 ≤ (show_says sizes opening settled i j).state
       to e (inl h) = absurd (omega (arith, h.1, ap length (sym e ∙ h.0)))
       to e (inr h) = h.1
 
-      from : 1 ≤ (show_says sizes opening settled i j).state → ((shown_words sizes opening settled i j ≡ Words) × (length Words ≡ readings_most) × ((show_says sizes opening settled i j).state ≡ 0)) ⊎ ((shown_words sizes opening settled i j ≡ []) × (1 ≤ (show_says sizes opening settled i j).state)) → shown_words sizes opening settled i j ≡ []
+      from : 1 ≤ (show_says sizes opening settled i j).state → ((shown_words sizes opening settled i j ≡ Words) × (length Words ≡ readings_most)
+          × ((show_says sizes opening settled i j).state ≡ 0)) ⊎ ((shown_words sizes opening settled i j ≡ []) × (1 ≤ (show_says sizes opening settled i j).state))
+          → shown_words sizes opening settled i j ≡ []
       from h (inl k) = absurd (omega (arith, k.2))
       from h (inr k) = k.0
 
 -- 4. "that two results satisfying the statement coincide"
 
-pub kept_is_one : (sizes t : List ℕ) (f : ℕ) (x y : KeptCount) → said_kept x ≡ kept_says sizes t f → said_kept y ≡ kept_says sizes t f → x ≡ y
+pub kept_is_one : (sizes t : List ℕ) (f : ℕ) (x y : Result ℕ Refusal) → said_kept x ≡ kept_says sizes t f → said_kept y ≡ kept_says sizes t f → x ≡ y
 kept_is_one sizes t f x y p q = kept-determined x y (p ∙ sym q)
 
-pub judge_is_one : (sizes t : List ℕ) (x y : Rows) → said_rows x ≡ rows_says sizes t → said_rows y ≡ rows_says sizes t → x ≡ y
+pub judge_is_one : (sizes t : List ℕ) (x y : Result (Option Row) Refusal) → said_rows x ≡ rows_says sizes t → said_rows y ≡ rows_says sizes t → x ≡ y
 judge_is_one sizes t x y p q = rows-determined x y (p ∙ sym q)
 
-pub first_broken_is_one : (n : ℕ) (size : ℕ → ℕ) (R : Rel) (x y : Rows) → said_rows x ≡ at_first_broken 0 n size R (says 0 []) → said_rows y ≡ at_first_broken 0 n size R (says 0 []) → x ≡ y
-first_broken_is_one n size R x y p q = rows-determined x y (p ∙ sym q)
+pub first_broken_is_one : (n : ℕ) (size : ℕ → ℕ) (R : Rel) (x y : Option Row) → said_row x ≡ at_first_broken 0 n size R (says 0 []) → said_row y ≡ at_first_broken 0 n size R (says 0 []) → x ≡ y
+first_broken_is_one n size R x y p q = row-determined x y (p ∙ sym q)
 
-pub shown_from_is_one : (sizes opening settled : List ℕ) (i j : ℕ) (x y : Shown) → said_shown x ≡ show_says sizes opening settled i j → said_shown y ≡ show_says sizes opening settled i j → x ≡ y
+pub shown_from_is_one : (sizes opening settled : List ℕ) (i j : ℕ) (x y : Result Shown Refusal) → said_shown x ≡ show_says sizes opening settled i j
+    → said_shown y ≡ show_says sizes opening settled i j → x ≡ y
 shown_from_is_one sizes opening settled i j x y p q = shown-determined x y (p ∙ sym q)
 
 pub show_is_one : (sizes opening settled : List ℕ) (i j : ℕ) (u v : List ℕ) → u ≡ shown_words sizes opening settled i j → v ≡ shown_words sizes opening settled i j → u ≡ v

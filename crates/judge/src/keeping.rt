@@ -7,39 +7,22 @@ ghost use Rattle.judge.specs.Answers.{said_kept};
 ghost use Rattle.judge.specs.Asked.{kept_says};
 
 use refusal::Refusal;
-use table::{READINGS_MOST, Shaped};
-
-// What is answered.
-#[derive(Drop)]
-pub enum KeptCount {
-    Kept(u32),
-    Refused(Refusal),
-}
 
 // The ones of a cell, counted row by row.
 fn ones_in(cell: &[u32]) -> u32
     requires { length cell.now ≡ readings_most }
     ensures { result ≡ sum readings_most (λ a. count 32 (bit (get_or cell.now a 0))) }
 {
-    let mut ones: u32 = 0;
-    let mut a: usize = 0;
-    while a < READINGS_MOST {
-        ones += words::ones(cell[a]);
-        a += 1;
-    }
-    ones
+    cell.iter().map(|w| words::ones(*w)).sum()
 }
 
 // The number of readings that a field keeps: the ones on its diagonal.
-pub fn kept(sizes: &[u8], table: &[u32], field: usize) -> KeptCount
+pub fn kept(sizes: &[u8], table: &[u32], field: usize) -> Result<u32, Refusal>
     ensures { said_kept result ≡ kept_says sizes.now table.now field }
 {
-    let shaped = table::shape(sizes, table);
-    if let Shaped::Refused(r) = shaped {
-        return KeptCount::Refused(r);
-    }
+    table::shape(sizes, table)?;
     if field >= sizes.len() {
-        return KeptCount::Refused(Refusal::NoField);
+        return Err(Refusal::NoField);
     }
-    KeptCount::Kept(ones_in(table::cell(table, sizes.len(), field, field)))
+    Ok(ones_in(table::cell(table, sizes.len(), field, field)))
 }

@@ -5,6 +5,6 @@ pub mod judging;
 pub mod keeping;
 pub mod showing;
 
-pub use judging::{Rows, first_broken, judge};
-pub use keeping::{KeptCount, kept};
+pub use judging::{first_broken, judge};
+pub use keeping::kept;
 pub use showing::{Shown, show, shown_from};

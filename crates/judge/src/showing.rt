@@ -6,27 +6,20 @@ ghost use Rattle.judge.specs.Asked.{show_says, shown_words};
 ghost use Rattle.judge.specs.Bits.{no_bit};
 
 use refusal::Refusal;
-use table::{READINGS_MOST, Shaped};
+use table::READINGS_MOST;
 
 // Where a cell is shown from: the first of its words.
-#[derive(Drop)]
+#[derive(Clone, Copy)]
 pub enum Shown {
     Settled(usize),
     Opening(usize),
-    Refused(Refusal),
 }
 
 // The bits of all the words, gathered without looking at each.
 fn gathered(rows: &[u32]) -> u32
     ensures { eqb result 0 ≡ no_bit rows.now }
 {
-    let mut bits: u32 = 0;
-    let mut a: usize = 0;
-    while a < rows.len() {
-        bits |= rows[a];
-        a += 1;
-    }
-    bits
+    rows.iter().fold(0, |bits, row| bits | *row)
 }
 
 // The table holds no bit at all: none of its cells does.
@@ -34,42 +27,40 @@ fn holds_none(table: &[u32]) -> bool
     requires { length table.now % readings_most ≡ 0 }
     ensures { result ≡ no_bit table.now }
 {
-    let mut p: usize = 0;
-    while p < table.len() {
-        if gathered(&table[p..p + READINGS_MOST]) != 0 {
-            return false;
-        }
-        p += READINGS_MOST;
-    }
-    true
+    table
+        .chunks_exact(READINGS_MOST)
+        .all(|cell| gathered(cell) == 0)
 }
 
 // Which table the cell (i, j) is shown from, and where it starts there; or why it is not shown.
-pub fn shown_from(sizes: &[u8], opening: &[u32], settled: &[u32], i: usize, j: usize) -> Shown
+pub fn shown_from(
+    sizes: &[u8],
+    opening: &[u32],
+    settled: &[u32],
+    i: usize,
+    j: usize,
+) -> Result<Shown, Refusal>
     ensures { said_shown result ≡ show_says sizes.now opening.now settled.now i j }
 {
     let n = sizes.len();
-    let fields = table::sized(sizes);
-    if let Shaped::Refused(r) = fields {
-        return Shown::Refused(r);
-    }
+    table::sized(sizes)?;
     if opening.len() != table::table_length(n) {
-        return Shown::Refused(Refusal::Length);
+        return Err(Refusal::Length);
     }
     if settled.len() != opening.len() {
-        return Shown::Refused(Refusal::Length);
+        return Err(Refusal::Length);
     }
     if i >= n {
-        return Shown::Refused(Refusal::NoField);
+        return Err(Refusal::NoField);
     }
     if j >= n {
-        return Shown::Refused(Refusal::NoField);
+        return Err(Refusal::NoField);
     }
     let at = table::cell_start(n, i, j);
     if holds_none(settled) {
-        return Shown::Opening(at);
+        return Ok(Shown::Opening(at));
     }
-    Shown::Settled(at)
+    Ok(Shown::Settled(at))
 }
 
 // The settled table at the lifetime of the opening one, which it outlives.
@@ -92,8 +83,8 @@ pub fn show<'o, 's: 'o>(
     let near = nearer(opening, settled);
     let n = sizes.len();
     match shown_from(sizes, opening, near, i, j) {
-        Shown::Opening(_) => table::cell(opening, n, i, j),
-        Shown::Settled(_) => table::cell(near, n, i, j),
-        Shown::Refused(_) => &opening[0..0],
+        Ok(Shown::Opening(_)) => table::cell(opening, n, i, j),
+        Ok(Shown::Settled(_)) => table::cell(near, n, i, j),
+        Err(_) => &opening[0..0],
     }
 }

@@ -1,9 +1,7 @@
 -- What reading standard input answers.
-use Rattle.std.specs.Prelude.{ℕ, ◌≤◌}
-use Rattle.lister.specs.declared.Input.{Input}
-use Rattle.lister.specs.declared.Input.TheVariants.{Bytes, Failed}
+use Rattle.std.specs.Prelude.{ℕ, ◌≤◌, Result, Ok, Err}
 
 -- no more bytes than there was room for
-abbrev pub Came : ℕ → Input → Type 0
-Came room (Bytes n) = n ≤ room
-Came room (Failed e) = Unit {0}
+abbrev pub Came : {E : Type 0} → ℕ → Result ℕ E → Type 0
+Came room (Ok n) = n ≤ room
+Came room (Err e) = Unit {0}

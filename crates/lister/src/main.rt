@@ -10,62 +10,35 @@ use std::io::Read;
 // One byte more than a sheet may have, so that a longer one shows itself.
 const ROOM: usize = 4097;
 
-// How many bytes came, or why they could not be read.
-#[derive(Drop)]
-enum Input {
-    Bytes(usize),
-    Failed(io::Error),
-}
-
-// One read into the room. No byte comes where the input is at its end.
-fn read_some<R: Read>(from: &mut R, room: &mut [u8]) -> Input
+// Reads until the input ends or the room is full: how many bytes came, or why they could not be read. One read may bring fewer bytes
+// than there is room for, so that n goes on by what came and not by one. The programs that run vectors read a file so as well; the
+// lister stands on no crate of theirs.
+fn read_all<R: Read>(from: &mut R, room: &mut [u8]) -> io::Result<usize>
     ensures came { Came (length room.old) result }
     ensures keeps { length room.new ≡ length room.old }
 {
-    match from.read(room) {
-        Ok(n) => Input::Bytes(n),
-        Err(e) => Input::Failed(e),
-    }
-}
-
-// Reads until the input ends or the room is full. One read may bring fewer bytes than there is room for.
-fn read_all<R: Read>(from: &mut R, room: &mut [u8]) -> Input
-    ensures came { Came (length room.old) result }
-    ensures keeps { length room.new ≡ length room.old }
-{
-    let most = room.len();
     let mut n = 0;
-    while n < most {
-        let came = read_some(from, &mut room[n..most]);
-        match came {
-            Input::Bytes(k) => {
-                if k == 0 {
-                    return Input::Bytes(n);
-                }
-                n += k;
-            }
-            Input::Failed(e) => return Input::Failed(e),
+    while n < room.len() {
+        let k = from.read(&mut room[n..])?;
+        if k == 0 {
+            break;
         }
+        n += k;
     }
-    Input::Bytes(n)
+    Ok(n)
 }
 
 // An error is of the word that says why the text could not be written.
 fn print_text<P: Print + Eprint>(rt: &P, sheet: &[u8]) -> io::Result<()> {
     let listing = listing::list_sheet(sheet);
-    let bytes = listing.bytes;
-    let length = listing.length;
-    match rt.write_all(&bytes[..length]) {
-        Ok(()) => Ok(()),
-        Err(e) => eprintln!(rt; "write: {e}"),
-    }
+    rt.write_all(listing.as_bytes())
+        .or_else(|e| eprintln!(rt; "write: {e}"))
 }
 
 fn main(rt: HostRuntime) -> io::Result<()> {
     let mut sheet = [0u8; ROOM];
-    let input = read_all(&mut rt.stdin(), &mut sheet);
-    match input {
-        Input::Bytes(n) => print_text(&rt, &sheet[..n]),
-        Input::Failed(e) => eprintln!(rt; "read: {e}"),
+    match read_all(&mut rt.stdin(), &mut sheet) {
+        Ok(n) => print_text(&rt, &sheet[..n]),
+        Err(e) => eprintln!(rt; "read: {e}"),
     }
 }

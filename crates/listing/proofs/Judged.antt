@@ -13,8 +13,8 @@ use Rattle.refusal.specs.declared.Refusal.{Refusal}
 use Rattle.table.specs.Layout.{rel, size_of, search_rows, search_row, at}
 use Rattle.table.specs.Shape.{GoodTable, row_place}
 use Rattle.table.specs.ShapeLaws.{check_shape}
-use Rattle.judge.specs.declared.judging.Rows.{Rows}
-use Rattle.judge.specs.declared.judging.Rows.TheVariants.{Whole, Broken, Refused}
+use Rattle.std.specs.Prelude.{Option, Some, None, Result, Ok, Err}
+use Rattle.table.specs.declared.layout.Row.{Row}
 use Rattle.judge.specs.Answers.{said_rows}
 use Rattle.judge.specs.Asked.{broken_row, at_first_broken, rows_says}
 use Rattle.listing.specs.Listing.{broken_place}
@@ -24,7 +24,7 @@ no_state : (b : Bool) (v : List ℕ) → (cond b (says 0 v) (says 0 [])).state �
 no_state true v = refl
 no_state false v = refl
 
-module _ {sizes t : List ℕ} (x : Rows) (g : GoodTable sizes t) (e : said_rows x ≡ rows_says sizes t) where
+module _ {sizes t : List ℕ} (x : Result (Option Row) Refusal) (g : GoodTable sizes t) (e : said_rows x ≡ rows_says sizes t) where
   said : said_rows x ≡ at_first_broken 0 (length sizes) (size_of sizes) (rel (length sizes) t) (says 0 [])
   unfolding rows_says
   said = e ∙ (check_shape sizes t).passes g _
@@ -33,14 +33,16 @@ module _ {sizes t : List ℕ} (x : Rows) (g : GoodTable sizes t) (e : said_rows 
   unfolding broken_place
   values = ap (λ (s : Said). s.values) said
 
-  pub told-whole : x ≡ Whole → broken_place (length sizes) (size_of sizes) (rel (length sizes) t) ≡ []
-  told-whole h = sym values ∙ ap (λ (y : Rows). (said_rows y).values) h
+  pub told-whole : x ≡ Ok None → broken_place (length sizes) (size_of sizes) (rel (length sizes) t) ≡ []
+  told-whole h = sym values ∙ ap (λ (y : Result (Option Row) Refusal). (said_rows y).values) h
 
-  pub told-broken : (i j a : ℕ) → x ≡ Broken i j a → broken_place (length sizes) (size_of sizes) (rel (length sizes) t) ≡ i ∷ j ∷ a ∷ []
-  told-broken i j a h = sym values ∙ ap (λ (y : Rows). (said_rows y).values) h
+  pub told-broken : (r : Row) → x ≡ Ok (Some r) → broken_place (length sizes) (size_of sizes) (rel (length sizes) t) ≡ r.i ∷ r.j ∷ r.a ∷ []
+  told-broken r h = sym values ∙ ap (λ (y : Result (Option Row) Refusal). (said_rows y).values) h
 
-  pub never_refused : (q : Refusal) → x ≡ Refused q → ⊥
+  pub never_refused : (q : Refusal) → x ≡ Err q → ⊥
   never_refused q h =
       let n = length sizes in
       let p : ℕ → Bool = λ p. at (broken_row (size_of sizes) (rel n t)) (search_row n p) in
-      omega (arith, numbered q, sym (ap (λ (y : Rows). (said_rows y).state) h) ∙ ap (λ (s : Said). s.state) said ∙ no_state (ltb (first (search_rows n) p) (search_rows n)) (row_place (search_row n (first (search_rows n) p))))
+      let k = first (search_rows n) p in
+      let state = sym (ap (λ (y : Result (Option Row) Refusal). (said_rows y).state) h) ∙ ap (λ (s : Said). s.state) said in
+      omega (arith, numbered q, state ∙ no_state (ltb k (search_rows n)) (row_place (search_row n k)))

@@ -30,7 +30,9 @@ chosen_or_none n false (v ∷ vs) days h a = (omega arith, tt)
 module _ (n : ℕ) (size : ℕ → ℕ) (day : ℕ → ℕ → ℕ) (M : Rel) (few : n ≤ fields_most) (small : (i a : ℕ) → day i a < 10 ^ 5) where
   fields-length : length (joined n (λ i. field_line i (kept_days M day i))) ≤ n * 209
   unfolding kept_days
-  fields-length = joined_length 209 n _ (λ i h. field_length i (kept_days M day i) (omega arith) (kept_few M day i) (digits-joined 5 readings_most _ (λ a k. one_or_none 5 (kept M i a) (day i a) (small i a))))
+  fields-length =
+      joined_length 209 n _ (λ i h. field_length i (kept_days M day i) (omega arith) (kept_few M day i)
+      (digits-joined 5 readings_most _ (λ a k. one_or_none 5 (kept M i a) (day i a) (small i a))))
 
   broken-length : (length (broken_place n size M) ≤ 3) × Digits 2 (broken_place n size M)
   broken-length = elim (lt_or_ge (searched n size M) (search_rows n)) [

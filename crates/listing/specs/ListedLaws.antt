@@ -1,5 +1,5 @@
 -- The text of what reading a sheet leaves in the lent buffers is the text of the sheet.
-use Rattle.std.specs.Prelude.{◌≡◌, refl, Bool, true, false, ℕ, zero, suc, ◌+◌, ◌-◌, ◌*◌, ◌≤◌, ◌<◌, leb, get_or, take, drop, replicate}
+use Rattle.std.specs.Prelude.{◌≡◌, refl, Bool, true, false, ℕ, zero, suc, ◌+◌, ◌-◌, ◌*◌, ◌≤◌, ◌<◌, leb, get_or, take, drop, replicate, Result, Ok, Err}
 use Rattle.std.proofs.Math.Path.{sym, ap}
 use Rattle.std.proofs.Common.{◌∙◌, inl, inr, arith, length-append, length-take, get_or-append-add, le-leb}
 use mathlib.Core.List.{List, [], ◌∷◌, ◌++◌, map, append_assoc}
@@ -14,8 +14,6 @@ use Rattle.table.specs.Layout.{table_length, rel, size_of}
 use Rattle.table.specs.LayoutLaws.{length-words}
 use Rattle.calendar.specs.DateAnswers.{padded}
 use Rattle.calendar.specs.DateAnswersLaws.{padded_at}
-use Rattle.scan.specs.declared.Opened.{Opened}
-use Rattle.scan.specs.declared.Opened.TheVariants.{Fields, Refused}
 use Rattle.scan.specs.Sheet.{Record, Scanned, whole, faulty, scan}
 use Rattle.scan.specs.WholeLaws.{GoodFields}
 use Rattle.sheet.specs.Opening.{sheet_most, day_of, opening, over, days_of as daysWritten, Outcome, lent, reading, Reads}
@@ -53,7 +51,8 @@ short-rest d fields h i k = h (suc i) (omega arith)
 pub written-length : (fields : List (List ℕ)) → Short fields → length (daysWritten fields) ≡ length fields * readings_most
 unfolding daysWritten
 written-length [] h = refl
-written-length (d ∷ fields) h = omega (arith, length-append (padded readings_most d) (daysWritten fields), padded-length readings_most d (h 0 (omega arith)), written-length fields (short-rest d fields h))
+written-length (d ∷ fields) h =
+    omega (arith, length-append (padded readings_most d) (daysWritten fields), padded-length readings_most d (h 0 (omega arith)), written-length fields (short-rest d fields h))
 
 -- the day that stands for a reading is the day of that reading
 pub written-day : (fields : List (List ℕ)) (rest : List ℕ) → Short fields → (i a : ℕ) → i < length fields → a < readings_most → day_in (daysWritten fields ++ rest) i a ≡ day_of fields i a
@@ -96,7 +95,7 @@ module _ (sep : ℕ → Bool) (sheet sizes days t : List ℕ) (room : lent sizes
   refused-text o (fault e f p g) q d = ap state_line d ∙ sym (text-scan f (faulty p) g)
   refused-text o (opened rs w) q d = absurd (omega (arith, ap (λ (s : Said). s.state) d, numbered q))
 
-  module _ {n : ℕ} {sizes' days' t' : List ℕ} (r : Reads (reading sep sheet sizes days t) (Fields n) sizes' days' t') where
+  module _ {n : ℕ} {sizes' days' t' : List ℕ} (r : Reads (reading sep sheet sizes days t) (Ok n) sizes' days' t') where
     abbrev rs : List Record
     rs = records_of sep sheet
 
@@ -144,10 +143,10 @@ module _ (sep : ℕ → Bool) (sheet sizes days t : List ℕ) (room : lent sizes
         ∙ sym (text-scan (le-leb (length sheet) sheet_most w.short) (whole rs) w.scanned)
 
   module _ {sizes' days' t' : List ℕ} where
-    pub answer-left : (x : Opened) → Reads (reading sep sheet sizes days t) x sizes' days' t' → Left x sizes' days' t'
-    answer-left (Fields n) r = fields-filled r
-    answer-left (Refused q) r = tt
+    pub answer-left : (x : Result ℕ Refusal) → Reads (reading sep sheet sizes days t) x sizes' days' t' → Left x sizes' days' t'
+    answer-left (Ok n) r = fields-filled r
+    answer-left (Err q) r = tt
 
-    pub answer-text : (x : Opened) → Reads (reading sep sheet sizes days t) x sizes' days' t' → answer_text x sizes' days' t' ≡ list_text sep sheet
-    answer-text (Fields n) r = opened-text r
-    answer-text (Refused q) r = refused-text (reading sep sheet sizes days t) (reading_ends sep sheet sizes days t) q r.answers
+    pub answer-text : (x : Result ℕ Refusal) → Reads (reading sep sheet sizes days t) x sizes' days' t' → answer_text x sizes' days' t' ≡ list_text sep sheet
+    answer-text (Ok n) r = opened-text r
+    answer-text (Err q) r = refused-text (reading sep sheet sizes days t) (reading_ends sep sheet sizes days t) q r.answers

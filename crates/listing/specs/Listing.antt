@@ -1,16 +1,15 @@
 -- What the lister says of a sheet (01, "The sheet lister's output").
-use Rattle.std.specs.Prelude.{Bool, cond, List, [], ◌∷◌, ◌++◌, map, ℕ, ◌+◌, ◌*◌, ◌≤◌, ◌<◌, leb, length, get_or, take}
+use Rattle.std.specs.Prelude.{Bool, cond, List, [], ◌∷◌, ◌++◌, map, ℕ, ◌+◌, ◌*◌, ◌≤◌, ◌<◌, leb, length, get_or, take, Result, Ok, Err}
 use Rattle.theory.specs.Limits.{fields_most, readings_most}
 use Rattle.theory.specs.Relation.{Rel, Settled, rounds}
 use Rattle.theory.specs.Settling.{steps}
 use Rattle.theory.specs.Reading.{kept, empty}
 use Rattle.theory.specs.Choice.{by_number, walk}
 use Rattle.refusal.specs.Said.{says, refused}
+use Rattle.refusal.specs.declared.Refusal.{Refusal}
 use Rattle.table.specs.Layout.{Sized, table_length, rel, size_of}
 use Rattle.table.specs.Shape.{GoodTable}
 use Rattle.judge.specs.Asked.{at_first_broken}
-use Rattle.scan.specs.declared.Opened.{Opened}
-use Rattle.scan.specs.declared.Opened.TheVariants.{Fields, Refused}
 use Rattle.scan.specs.Sheet.{Record, fields_of, Scanned, whole, faulty, scan}
 use Rattle.sheet.specs.Opening.{sheet_most, day_of, opening}
 use Rattle.text.specs.Text.{joined, state_line, rounds_line, field_line, rows_line, first_line}
@@ -105,9 +104,9 @@ abbrev pub filled_text : (n : ℕ) (sizes days t : List ℕ) → List ℕ
 filled_text n sizes days t = opened_text n (size_of (take n sizes)) (day_in days) (rel n (take (table_length n) t))
 
 -- the text of what reading a sheet answered and left in the lent buffers
-abbrev pub answer_text : Opened → (sizes days t : List ℕ) → List ℕ
-answer_text (Fields n) sizes days t = filled_text n sizes days t
-answer_text (Refused r) sizes days t = state_line (refused r)
+abbrev pub answer_text : Result ℕ Refusal → (sizes days t : List ℕ) → List ℕ
+answer_text (Ok n) sizes days t = filled_text n sizes days t
+answer_text (Err r) sizes days t = state_line (refused r)
 
 -- the parts of lent buffers that n fields fill: sizes and a table of good shape, and the days of the readings
 pub record Filled (n : ℕ) (sizes days t : List ℕ) : Type 0 where
@@ -118,6 +117,6 @@ pub record Filled (n : ℕ) (sizes days t : List ℕ) : Type 0 where
   pub long : n * readings_most ≤ length days
 
 -- a refusal fills nothing
-abbrev pub Left : Opened → (sizes days t : List ℕ) → Type 0
-Left (Fields n) sizes days t = Filled n sizes days t
-Left (Refused r) sizes days t = Unit {0}
+abbrev pub Left : Result ℕ Refusal → (sizes days t : List ℕ) → Type 0
+Left (Ok n) sizes days t = Filled n sizes days t
+Left (Err r) sizes days t = Unit {0}

@@ -79,7 +79,8 @@ module _ (n : ℕ) (size : ℕ → ℕ) (day : ℕ → ℕ → ℕ) (R S : Rel) 
   unfolding broken_place
   broken_same =
       ap (λ (k : ℕ). (cond (ltb k (search_rows n)) (says 0 (row_place (search_row n k))) (says 0 [])).values)
-      (first_same (search_rows n) (λ p. at (broken_row size R) (search_row n p)) (λ p. at (broken_row size S) (search_row n p)) (λ p h. let r = search_in n p h in row_same (search_row n p).i (search_row n p).j (search_row n p).a r.first r.second))
+      (first_same (search_rows n) (λ p. at (broken_row size R) (search_row n p)) (λ p. at (broken_row size S) (search_row n p))
+      (λ p h. let r = search_in n p h in row_same (search_row n p).i (search_row n p).j (search_row n p).a r.first r.second))
 
   walk_same : Same n by_number (walk n by_number size R (λ f. 255) n) (walk n by_number size S (λ f. 255) n)
   walk_same =
@@ -118,7 +119,8 @@ module _ (n : ℕ) (size : ℕ → ℕ) (M : Rel) (day day' : ℕ → ℕ → �
       x : ℕ → ℕ
       x = walk n by_number size M (λ f. 255) n
 
-      go : (b : Bool) (l : List ℕ) → (T (not b) → T (not (empty n M))) → (l ≡ [] → broken_place n size M ≡ []) → cond b [] (where_whole l (days_of n day x)) ≡ cond b [] (where_whole l (days_of n day' x))
+      go : (b : Bool) (l : List ℕ) → (T (not b) → T (not (empty n M))) → (l ≡ [] → broken_place n size M ≡ [])
+          → cond b [] (where_whole l (days_of n day x)) ≡ cond b [] (where_whole l (days_of n day' x))
       go true l f g = refl
       go false (v ∷ vs) f g = refl
       go false [] f g =

@@ -5,6 +5,7 @@ use Rattle.std.specs.Prelude.{Bool, cond, not, ℕ, ◌≤◌, leb, length, ◌^
 use Rattle.std.proofs.Math.Bool.{true, false}
 use mathlib.Core.List.{List, [], ◌∷◌}
 use Rattle.std.proofs.Math.Dec.{T}
+use lib.Ieee.Bits.{is_false}
 use Rattle.theory.specs.Limits.{rounds_most}
 use Rattle.theory.specs.Relation.{Rel, WellFormed, Settled}
 use Rattle.theory.specs.Reading.{empty}
@@ -19,8 +20,8 @@ use Rattle.sheet.specs.OpeningLaws.{opening-formed}
 use Rattle.text.specs.Text.{joined, Closed, state_line, rounds_line, field_line, rows_line, line_most}
 use Rattle.text.specs.TextLaws.{closed_after, state_closed, first_closed}
 use Rattle.text.specs.Writing.{Shows}
-use Rattle.text.specs.Theorems.{shown_is_one}
-use Rattle.listing.specs.declared.listed.Listing.{Listing}
+use Rattle.text.specs.Theorems.{text_is_one}
+use Rattle.text.specs.declared.shown.Text.{Text}
 use Rattle.listing.specs.Listing.{text_most, days_of, broken_place, where_whole, chosen_days, lines_of, opened_text, records_text, scanned_text, list_text}
 use Rattle.listing.specs.SameLaws.{days_same, unbroken}
 use Rattle.std.proofs.Math.ListN.{get_or-eq_default}
@@ -31,8 +32,8 @@ use Rattle.text.specs.LengthLaws.{state-length}
 use Rattle.listing.specs.LengthLaws.{parts_length}
 
 -- "two results satisfying the statement coincide"
-pub listing_is_one : {text : List ℕ} (x y : Listing) → Shows text_most text x.bytes x.length → Shows text_most text y.bytes y.length → x ≡ y
-listing_is_one x y s t = let e = shown_is_one s t in λ i. record { bytes = e.0 i; length = e.1 i }
+pub listing_is_one : {text : List ℕ} (x y : Text text_most) → Shows text_most text x.bytes x.length → Shows text_most text y.bytes y.length → x ≡ y
+listing_is_one = text_is_one
 
 -- "settles with budget 123,392": no sheet's table takes more rounds
 pub budget_suffices : (rs : List Record) → GoodFields (fields_of rs) → steps (length (fields_of rs)) (opening (fields_of rs) rs) ≤ rounds_most
@@ -43,15 +44,12 @@ module _ (n : ℕ) (size : ℕ → ℕ) (day : ℕ → ℕ → ℕ) (M : Rel) wh
   chosen-as : (b : Bool) (l : List ℕ) → empty n M ≡ b → broken_place n size M ≡ l → (days : List ℕ) → cond (empty n M) [] (where_whole (broken_place n size M) days) ≡ cond b [] (where_whole l days)
   chosen-as b l e f days = rw (e, f)
 
-  pub days_chosen_are_first : WellFormed n size M → Settled n M → T (not (empty n M)) → broken_place n size M ≡ [] → (x : ℕ → ℕ) → First n by_number M (λ f. 255) x → chosen_days n size day M ≡ days_of n day x
+  pub days_chosen_are_first : WellFormed n size M → Settled n M → T (not (empty n M)) → broken_place n size M ≡ []
+      → (x : ℕ → ℕ) → First n by_number M (λ f. 255) x → chosen_days n size day M ≡ days_of n day x
   unfolding chosen_days
   days_chosen_are_first w s filled clear x f =
-      chosen-as false [] (not-empty (empty n M) filled) clear _
+      chosen-as false [] (is_false (empty n M) filled) clear _
       ∙ days_same n day _ _ (first_is_one (first_exists w s filled (unbroken w clear) (λ f. 255) (λ i j hi hj k. absurd k)) f)
-    where
-      not-empty : (b : Bool) → T (not b) → b ≡ false
-      not-empty true t = absurd t
-      not-empty false t = refl
 
   -- "`first none` when empty or broken"
   pub none_where_empty : empty n M ≡ true → chosen_days n size day M ≡ []

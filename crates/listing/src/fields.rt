@@ -1,94 +1,72 @@
-// The days that are printed, and the lines of the fields.
-ghost use Rattle.std.specs.Prelude.{◌≡◌, cond, [], ◌∷◌, ◌<◌, ◌≤◌, ◌+◌, ◌*◌, length, get_or};
+// The days that are printed, and the lines of the fields. A table comes with its number of fields, as the functions of table take them.
+ghost use Rattle.std.specs.Prelude.{◌≡◌, ◌<◌, ◌+◌, ◌*◌, length};
 ghost use Rattle.theory.specs.Limits.{readings_most};
 ghost use Rattle.table.specs.Layout.{rel};
-ghost use Rattle.text.specs.Text.{joined, field_line};
+ghost use Rattle.choose.specs.Choosing.{choice_of};
+ghost use Rattle.text.specs.Text.{numbers, joined, field_line};
+ghost use Rattle.text.specs.Puts.{Fits, Puts};
 ghost use Rattle.listing.specs.Listing.{day_in, kept_days, days_of, Dated, Answered};
-ghost use Rattle.text.specs.Writing.{Room, Wrote};
 
+use arrayvec::ArrayVec;
 use table::layout::{READINGS_MOST, row_word};
-use text::lines::{put_line, put_said};
+use text::Writer;
 
 // The day of reading a of field i.
 fn day(days: &[u16], i: usize, a: usize) -> usize
     requires { i * readings_most + a < length days.now }
     ensures { result ≡ day_in days.now i a }
 {
-    days[i * READINGS_MOST + a] as usize
+    usize::from(days[i * READINGS_MOST + a])
 }
 
-// Adds a day to those found, if it is to be kept.
-fn add_day(found: &mut [usize], at: usize, keep: bool, day: usize) -> usize
-    requires { Room found.old at (cond keep (day ∷ []) []) }
-    ensures { Wrote found.old found.new at result (cond keep (day ∷ []) []) }
+// The days of the readings that field i keeps, of which the count is put first.
+fn kept_days(table: &[u32], n: usize, i: usize, days: &[u16]) -> ArrayVec<usize, READINGS_MOST>
+    requires { Dated n table.now days.now × (i < n) }
+    ensures { result.items ≡ kept_days (rel n table.now) (day_in days.now) i }
 {
-    if keep {
-        found[at] = day;
-        return at + 1;
+    let mut found = ArrayVec::new();
+    for a in 0..READINGS_MOST {
+        if words::has(row_word(table, n, i, i, a), a as u32) {
+            found.push(day(days, i, a));
+        }
     }
-    at
+    found
 }
 
-// The days of the readings that field i keeps; answers how many there are.
-fn kept_days(table: &[u32], n: usize, i: usize, days: &[u16], found: &mut [usize]) -> usize
-    requires { Dated n table.now days.now × (i < n) × (readings_most ≤ length found.old) }
-    ensures { Wrote found.old found.new 0 result (kept_days (rel n table.now) (day_in days.now) i) }
+// The days of the readings of an answer, one for each field, a space before each.
+pub fn put_days(w: &mut Writer, answer: &[u8], days: &[u16])
+    requires { Answered answer.now days.now × Fits w.old (numbers (days_of (length answer.now) (day_in days.now) (choice_of answer.now))) }
+    ensures { Puts w.old w.new (numbers (days_of (length answer.now) (day_in days.now) (choice_of answer.now))) }
 {
-    let mut count = 0;
-    let mut a = 0;
-    while a < READINGS_MOST {
-        let keep = words::has(row_word(table, n, i, i, a), a as u32);
-        count = add_day(found, count, keep, day(days, i, a));
-        a += 1;
+    for (i, a) in answer.iter().enumerate() {
+        w.put_numbers(&[day(days, i, usize::from(*a))]);
     }
-    count
-}
-
-// The days of the readings of an answer, one for each field.
-pub fn chosen_days(answer: &[u8], days: &[u16], found: &mut [usize]) -> usize
-    requires { Answered answer.now days.now × (length answer.now ≤ length found.old) }
-    ensures { Wrote found.old found.new 0 result (days_of (length answer.now) (day_in days.now) (λ i. get_or answer.now i 0)) }
-{
-    let mut i = 0;
-    while i < answer.len() {
-        found[i] = day(days, i, answer[i] as usize);
-        i += 1;
-    }
-    i
 }
 
 // The line of a field and the days it keeps.
-fn put_kept(out: &mut [u8], at: usize, i: usize, days: &[usize]) -> usize
-    requires { Room out.old at (field_line i days.now) }
-    ensures { Wrote out.old out.new at result (field_line i days.now) }
+fn put_kept(w: &mut Writer, i: usize, days: &[usize])
+    requires { Fits w.old (field_line i days.now) }
+    ensures { Puts w.old w.new (field_line i days.now) }
 {
-    let number = [i];
-    let next = put_said(out, at, b"field", &number);
-    let count = [days.len()];
-    let next = put_said(out, next, b" kept", &count);
-    put_line(out, next, b"", days)
+    w.put_said(b"field", &[i]);
+    w.put_said(b" kept", &[days.len()]);
+    w.put_line(b"", days);
 }
 
 // The line of field i.
-fn put_field(out: &mut [u8], at: usize, table: &[u32], n: usize, i: usize, days: &[u16]) -> usize
-    requires { Dated n table.now days.now × (i < n) × Room out.old at (field_line i (kept_days (rel n table.now) (day_in days.now) i)) }
-    ensures { Wrote out.old out.new at result (field_line i (kept_days (rel n table.now) (day_in days.now) i)) }
+fn put_field(w: &mut Writer, table: &[u32], n: usize, i: usize, days: &[u16])
+    requires { Dated n table.now days.now × (i < n) × Fits w.old (field_line i (kept_days (rel n table.now) (day_in days.now) i)) }
+    ensures { Puts w.old w.new (field_line i (kept_days (rel n table.now) (day_in days.now) i)) }
 {
-    let mut found = [0usize; READINGS_MOST];
-    let count = kept_days(table, n, i, days, &mut found);
-    put_kept(out, at, i, &found[..count])
+    put_kept(w, i, &kept_days(table, n, i, days));
 }
 
 // The lines of all n fields.
-pub fn put_fields(out: &mut [u8], at: usize, table: &[u32], n: usize, days: &[u16]) -> usize
-    requires { Dated n table.now days.now × Room out.old at (joined n (λ i. field_line i (kept_days (rel n table.now) (day_in days.now) i))) }
-    ensures { Wrote out.old out.new at result (joined n (λ i. field_line i (kept_days (rel n table.now) (day_in days.now) i))) }
+pub fn put_fields(w: &mut Writer, table: &[u32], n: usize, days: &[u16])
+    requires { Dated n table.now days.now × Fits w.old (joined n (λ i. field_line i (kept_days (rel n table.now) (day_in days.now) i))) }
+    ensures { Puts w.old w.new (joined n (λ i. field_line i (kept_days (rel n table.now) (day_in days.now) i))) }
 {
-    let mut next = at;
-    let mut i = 0;
-    while i < n {
-        next = put_field(out, next, table, n, i, days);
-        i += 1;
+    for i in 0..n {
+        put_field(w, table, n, i, days);
     }
-    next
 }

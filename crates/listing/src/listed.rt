@@ -1,47 +1,44 @@
 // The text of a sheet.
-ghost use Rattle.std.specs.Prelude.{◌≤◌, length};
 ghost use Rattle.calendar.specs.DateText.{separator};
-ghost use Rattle.text.specs.Writing.{Wrote, Shows};
+ghost use Rattle.text.specs.Writing.{Shows};
+ghost use Rattle.text.specs.Puts.{HasRoom, Puts};
 ghost use Rattle.listing.specs.Listing.{text_most, list_text, Filled, filled_text, answer_text, Left};
 
 use crate::settled::put_opened;
-use sheet::{DAYS_MOST, Opened, WORDS_MOST};
+use refusal::Refusal;
+use sheet::{DAYS_MOST, WORDS_MOST};
 use table::FIELDS_MOST;
-use text::lines::put_refusal;
+use text::{Text, Writer};
 
 // A text has at most so many bytes.
 pub const TEXT_MOST: usize = 3489;
 
-// The bytes of a text at the front, zeros after them.
-#[derive(Drop)]
-pub struct Listing {
-    pub bytes: [u8; TEXT_MOST],
-    pub length: usize,
-}
+// A sheet's text.
+pub type Listing = Text<TEXT_MOST>;
 
 // The text of n fields, from the parts of the lent buffers that they fill.
-fn put_filled(out: &mut [u8], n: usize, sizes: &[u8], days: &[u16], table: &mut [u32]) -> usize
-    requires { Filled n sizes.now days.now table.old × (text_most ≤ length out.old) }
-    ensures { Wrote out.old out.new 0 result (filled_text n sizes.now days.now table.old) }
+fn put_filled(w: &mut Writer, n: usize, sizes: &[u8], days: &[u16], table: &mut [u32])
+    requires { Filled n sizes.now days.now table.old × HasRoom w.old text_most }
+    ensures { Puts w.old w.new (filled_text n sizes.now days.now table.old) }
 {
     let words = table::table_length(n);
-    put_opened(out, &sizes[..n], days, &mut table[..words])
+    put_opened(w, &sizes[..n], days, &mut table[..words]);
 }
 
 // The text of what reading a sheet answered and left.
 fn put_answer(
-    out: &mut [u8],
-    answer: Opened,
+    w: &mut Writer,
+    answer: Result<usize, Refusal>,
     sizes: &[u8],
     days: &[u16],
     table: &mut [u32],
-) -> usize
-    requires { Left answer sizes.now days.now table.old × (text_most ≤ length out.old) }
-    ensures { Wrote out.old out.new 0 result (answer_text answer sizes.now days.now table.old) }
+)
+    requires { Left answer sizes.now days.now table.old × HasRoom w.old text_most }
+    ensures { Puts w.old w.new (answer_text answer sizes.now days.now table.old) }
 {
     match answer {
-        Opened::Fields(n) => put_filled(out, n, sizes, days, table),
-        Opened::Refused(r) => put_refusal(out, 0, r),
+        Ok(n) => put_filled(w, n, sizes, days, table),
+        Err(r) => w.put_refusal(r),
     }
 }
 
@@ -54,6 +51,11 @@ pub fn list_sheet(sheet: &[u8]) -> Listing
     let mut table = [0u32; WORDS_MOST];
     let answer = sheet::read_sheet(sheet, &mut sizes, &mut days, &mut table);
     let mut bytes = [0u8; TEXT_MOST];
-    let length = put_answer(&mut bytes, answer, &sizes, &days, &mut table);
-    Listing { bytes, length }
+    let mut text = Writer {
+        out: &mut bytes,
+        at: 0,
+    };
+    put_answer(&mut text, answer, &sizes, &days, &mut table);
+    let length = text.at;
+    Text { bytes, length }
 }

@@ -1,12 +1,13 @@
 // The paper's numbers: one enum for every refusal, the number and the place of each (01, "Numbers given back").
 #![tactic(auto)]
 
-ghost use Rattle.std.specs.Prelude.{[], ◌∷◌};
+ghost use Rattle.std.specs.Prelude.{◌≤◌, length};
 ghost use Rattle.refusal.specs.Refusals.{number, place};
 ghost use Rattle.refusal.specs.Print.{Prints};
 
-// A case for each number and arity of place. Whether a value is a field or an offset is the entry point's rule.
-#[derive(Drop)]
+// A case for each number and arity of place. Whether a value is a field or an offset is the entry point's rule; a row is three values,
+// as `place` lists them, since the rows of a table are known above this crate.
+#[derive(Clone, Copy)]
 pub enum Refusal {
     // 1: no field, or more than the most
     Fields,
@@ -59,77 +60,61 @@ pub enum Refusal {
 }
 
 // A refusal in numbers, for printing: the paper's number, how many values its place has, and these, then zeros.
-#[derive(Drop)]
+// The count stands beside an array since there is no heap, and C is given all three values (`Prints`, `packed`).
+#[derive(Clone, Copy)]
 pub struct Printed {
     pub number: u8,
     pub count: usize,
     pub values: [usize; 3],
 }
 
-fn nowhere(k: u8) -> Printed
-    ensures { Prints k [] result }
-{
-    Printed {
-        number: k,
-        count: 0,
-        values: [0, 0, 0],
+impl Printed {
+    // A number and a place, of which there is room for three values.
+    fn new(number: u8, place: &[usize]) -> Printed
+        requires { length place.now ≤ 3 }
+        ensures { Prints number place.now result }
+    {
+        let count = place.len();
+        let mut values = [0; 3];
+        values[..count].copy_from_slice(place);
+        Printed {
+            number,
+            count,
+            values,
+        }
     }
 }
 
-fn at_one(k: u8, a: usize) -> Printed
-    ensures { Prints k (a ∷ []) result }
-{
-    Printed {
-        number: k,
-        count: 1,
-        values: [a, 0, 0],
-    }
-}
-
-fn at_row(k: u8, i: usize, j: usize, a: usize) -> Printed
-    ensures { Prints k (i ∷ j ∷ a ∷ []) result }
-{
-    Printed {
-        number: k,
-        count: 3,
-        values: [i, j, a],
-    }
-}
-
-// The number and the place of a refusal.
+// The number and the place of a refusal: a function and no `From`, since docs/PROMISES.md names it.
 pub fn in_numbers(r: Refusal) -> Printed
     ensures { Prints (number r) (place r) result }
 {
     match r {
-        Refusal::Fields => nowhere(1),
-        Refusal::Size(a) => at_one(2, a),
-        Refusal::Length => nowhere(3),
-        Refusal::Stray(i, j, a) => at_row(4, i, j, a),
-        Refusal::Diagonal(i, j, a) => at_row(5, i, j, a),
-        Refusal::Mirror(i, j, a) => at_row(6, i, j, a),
-        Refusal::Lent => nowhere(7),
-        Refusal::Unsettled(i, j, a) => at_row(8, i, j, a),
-        Refusal::Empty => nowhere(9),
-        Refusal::Broken(i, j, a) => at_row(10, i, j, a),
-        Refusal::Fixed(a) => at_one(11, a),
-        Refusal::Clash(i, j) => Printed {
-            number: 12,
-            count: 2,
-            values: [i, j, 0],
-        },
-        Refusal::Short => nowhere(13),
-        Refusal::Long => nowhere(14),
-        Refusal::Cut(a) => at_one(15, a),
-        Refusal::Mark(a) => at_one(16, a),
-        Refusal::Late(a) => at_one(17, a),
-        Refusal::Many(a) => at_one(18, a),
-        Refusal::Shapeless => nowhere(19),
-        Refusal::ShapelessAt(a) => at_one(19, a),
-        Refusal::Unreal => nowhere(20),
-        Refusal::UnrealAt(a) => at_one(20, a),
-        Refusal::Days(a) => at_one(21, a),
-        Refusal::Pair(a) => at_one(22, a),
-        Refusal::After(a) => at_one(23, a),
-        Refusal::NoField => nowhere(24),
+        Refusal::Fields => Printed::new(1, &[]),
+        Refusal::Size(a) => Printed::new(2, &[a]),
+        Refusal::Length => Printed::new(3, &[]),
+        Refusal::Stray(i, j, a) => Printed::new(4, &[i, j, a]),
+        Refusal::Diagonal(i, j, a) => Printed::new(5, &[i, j, a]),
+        Refusal::Mirror(i, j, a) => Printed::new(6, &[i, j, a]),
+        Refusal::Lent => Printed::new(7, &[]),
+        Refusal::Unsettled(i, j, a) => Printed::new(8, &[i, j, a]),
+        Refusal::Empty => Printed::new(9, &[]),
+        Refusal::Broken(i, j, a) => Printed::new(10, &[i, j, a]),
+        Refusal::Fixed(a) => Printed::new(11, &[a]),
+        Refusal::Clash(i, j) => Printed::new(12, &[i, j]),
+        Refusal::Short => Printed::new(13, &[]),
+        Refusal::Long => Printed::new(14, &[]),
+        Refusal::Cut(a) => Printed::new(15, &[a]),
+        Refusal::Mark(a) => Printed::new(16, &[a]),
+        Refusal::Late(a) => Printed::new(17, &[a]),
+        Refusal::Many(a) => Printed::new(18, &[a]),
+        Refusal::Shapeless => Printed::new(19, &[]),
+        Refusal::ShapelessAt(a) => Printed::new(19, &[a]),
+        Refusal::Unreal => Printed::new(20, &[]),
+        Refusal::UnrealAt(a) => Printed::new(20, &[a]),
+        Refusal::Days(a) => Printed::new(21, &[a]),
+        Refusal::Pair(a) => Printed::new(22, &[a]),
+        Refusal::After(a) => Printed::new(23, &[a]),
+        Refusal::NoField => Printed::new(24, &[]),
     }
 }

@@ -1,5 +1,3 @@
 pub mod Dates
 pub mod Days
-pub mod Rights
 pub mod Scans
-pub mod Steps

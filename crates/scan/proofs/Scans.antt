@@ -22,30 +22,30 @@ use Rattle.scan.specs.Judging.{adds, rules, ends, stops, gist}
 
 pub gist-adds : (x : Step) (k n : ℕ) → adds k n ≡ gist x → (d : List ℕ) × (x ≡ more (field d) n) × (length d ≡ k)
 gist-adds (more (field d) m) k n e = (d, cc e, cc e)
-gist-adds (more (gap i j lo hi) m) k n e = absurd (let z : ◌≡◌ {A = ℕ} 0 1 = cc in omega arith)
-gist-adds (more (strike i j a b) m) k n e = absurd (let z : ◌≡◌ {A = ℕ} 0 1 = cc in omega arith)
-gist-adds done k n e = absurd (let z : ◌≡◌ {A = ℕ} 0 1 = cc in omega arith)
-gist-adds (stop q) k n e = absurd (let z : ◌≡◌ {A = ℕ} 0 1 = cc in omega arith)
+gist-adds (more (gap i j lo hi) m) k n e = absurd (cc)
+gist-adds (more (strike i j a b) m) k n e = absurd (cc)
+gist-adds done k n e = absurd (cc)
+gist-adds (stop q) k n e = absurd (cc)
 
 pub gist_rules : (x : Step) (n : ℕ) → rules n ≡ gist x → (r : Record) × (x ≡ more r n) × (is_pair r ≡ true)
-gist_rules (more (field d) m) n e = absurd (let z : ◌≡◌ {A = ℕ} 0 1 = cc in omega arith)
+gist_rules (more (field d) m) n e = absurd (cc)
 gist_rules (more (gap i j lo hi) m) n e = (gap i j lo hi, cc e, refl)
 gist_rules (more (strike i j a b) m) n e = (strike i j a b, cc e, refl)
-gist_rules done n e = absurd (let z : ◌≡◌ {A = ℕ} 0 1 = cc in omega arith)
-gist_rules (stop q) n e = absurd (let z : ◌≡◌ {A = ℕ} 0 1 = cc in omega arith)
+gist_rules done n e = absurd (cc)
+gist_rules (stop q) n e = absurd (cc)
 
 pub gist_ends : (x : Step) → ends ≡ gist x → x ≡ done
-gist_ends (more (field d) m) e = absurd (let z : ◌≡◌ {A = ℕ} 0 1 = cc in omega arith)
-gist_ends (more (gap i j lo hi) m) e = absurd (let z : ◌≡◌ {A = ℕ} 0 1 = cc in omega arith)
-gist_ends (more (strike i j a b) m) e = absurd (let z : ◌≡◌ {A = ℕ} 0 1 = cc in omega arith)
+gist_ends (more (field d) m) e = absurd (cc)
+gist_ends (more (gap i j lo hi) m) e = absurd (cc)
+gist_ends (more (strike i j a b) m) e = absurd (cc)
 gist_ends done e = refl
-gist_ends (stop q) e = absurd (let z : ◌≡◌ {A = ℕ} 0 1 = cc in omega arith)
+gist_ends (stop q) e = absurd (cc)
 
 pub gist-stops : (x : Step) (q : Said) → stops q ≡ gist x → x ≡ stop q
-gist-stops (more (field d) m) q e = absurd (let z : ◌≡◌ {A = ℕ} 0 1 = cc in omega arith)
-gist-stops (more (gap i j lo hi) m) q e = absurd (let z : ◌≡◌ {A = ℕ} 0 1 = cc in omega arith)
-gist-stops (more (strike i j a b) m) q e = absurd (let z : ◌≡◌ {A = ℕ} 0 1 = cc in omega arith)
-gist-stops done q e = absurd (let z : ◌≡◌ {A = ℕ} 0 1 = cc in omega arith)
+gist-stops (more (field d) m) q e = absurd (cc)
+gist-stops (more (gap i j lo hi) m) q e = absurd (cc)
+gist-stops (more (strike i j a b) m) q e = absurd (cc)
+gist-stops done q e = absurd (cc)
 gist-stops (stop p) q e = cc e
 
 -- the state, n fields with their sizes and whether a GP or PR came, is what the records before at have said
@@ -88,10 +88,10 @@ module _ {sep : ℕ → Bool} {s : List ℕ} {at n : ℕ} {late : Bool} {sizes :
         go Date f = omega (arith, (adds_more state at (date_at sep date_length s at) (field found.0) next f).1, length-told)
         go Short f = omega (arith, (adds_more state at (date_at sep short_length s at) (field found.0) next f).1, length-told)
         go Days f = omega (arith, (adds_more state at (days_at s at) (field found.0) next f).1, length-told)
-        go Gap f = absurd (let p = (gap_stands (take n sizes) s at (field found.0) next f).is in let z : ◌≡◌ {A = ℕ} 0 1 = cc p in omega arith)
-        go Strike f = absurd (let p = (strike-stands (take n sizes) s at (field found.0) next f).is in let z : ◌≡◌ {A = ℕ} 0 1 = cc p in omega arith)
+        go Gap f = absurd (let p = (gap_stands (take n sizes) s at (field found.0) next f).is in cc p)
+        go Strike f = absurd (let p = (strike-stands (take n sizes) s at (field found.0) next f).is in cc p)
         go End f = absurd (end_no_more (take n sizes) s at (field found.0) next f)
-        go Unknown f = absurd (let z : ◌≡◌ {A = ℕ} 0 1 = cc f in omega arith)
+        go Unknown f = absurd (cc f)
 
     pub field_forward : (at + 2 ≤ next) × (next ≤ length s)
     field_forward = step_forward sep _ s at (field found.0) next found.1

@@ -25,7 +25,7 @@ module _ (sep : ℕ → Bool) (s : List ℕ) (q : Said) where
     where
       go : (x : Step) → step_at sep (told rs) s at ≡ x → onward rs (λ r n. scan_from sep k s (rs ++ r ∷ []) n) x ≡ faulty q → ((r : Record) (n : ℕ) → n ≤ length s → scan_from sep k s (rs ++ r ∷ []) n ≡ faulty q → FaultIn s q) → FaultIn s q
       go (more r n) d f g = g r n (step_forward sep (told rs) s at r n d).1 f
-      go done d f g = absurd (let z : ◌≡◌ {A = ℕ} 0 1 = cc f in omega arith)
+      go done d f g = absurd (cc f)
       go (stop p) d f g = let i : p ≡ q = cc f in rw (← i) (record { at = at; within = h; fault = step_fault sep (told rs) s at p d })
 
   pub scan-fault : scan sep s ≡ faulty q → FaultIn s q

@@ -1,6 +1,7 @@
 -- What the functions that judge one record promise.
-use Rattle.std.specs.Prelude.{◌≡◌, Bool, List, [], ℕ, ◌+◌, length}
+use Rattle.std.specs.Prelude.{◌≡◌, Bool, List, [], ℕ, ◌+◌, length, Result, Ok, Err}
 use Rattle.refusal.specs.Said.{Said, refused}
+use Rattle.refusal.specs.declared.Refusal.{Refusal}
 use Rattle.theory.specs.Limits.{readings_most}
 use Rattle.calendar.specs.DateText.{date_length, short_length}
 use Rattle.calendar.specs.DateAnswers.{padded}
@@ -11,7 +12,7 @@ use Rattle.scan.specs.declared.field.FieldRead.{FieldRead}
 use Rattle.scan.specs.declared.record.Interval.{Interval}
 use Rattle.scan.specs.declared.record.Pair.{Pair}
 use Rattle.scan.specs.declared.step.Verdict.{Verdict}
-use Rattle.scan.specs.declared.step.Verdict.TheVariants.{Field, Rule, Stop}
+use Rattle.scan.specs.declared.step.Verdict.TheVariants.{Field, Rule}
 
 -- g holds the numbers of the GP at an offset
 pub record ReadsInterval (sheet : List ℕ) (at : ℕ) (g : Interval) : Type 0 where
@@ -41,12 +42,12 @@ gist (more (strike i j a b) next) = rules next
 gist done = ends
 gist (stop s) = stops s
 
--- what a verdict says
-abbrev pub gist_of : Verdict → Gist
-gist_of (Field size next) = adds size next
-gist_of (Rule next) = rules next
-gist_of Verdict.End = ends
-gist_of (Stop r) = stops (refused r)
+-- what a verdict says, or the refusal in its place
+abbrev pub gist_of : Result Verdict Refusal → Gist
+gist_of (Ok (Field size next)) = adds size next
+gist_of (Ok (Rule next)) = rules next
+gist_of (Ok Verdict.End) = ends
+gist_of (Err r) = stops (refused r)
 
 -- the field that a record with this mark adds: DT and DS by their text, else FD's list
 abbrev pub field_by : (ℕ → Bool) → Mark → List ℕ → ℕ → Step
@@ -66,7 +67,17 @@ days_in (more (strike i j a b) next) = []
 days_in done = []
 days_in (stop s) = []
 
+-- the verdict on a record whose field is read
+abbrev pub verdict_on : Result FieldRead Refusal → Result Verdict Refusal
+verdict_on (Ok f) = Ok (Field f.size f.next)
+verdict_on (Err r) = Err r
+
+-- the days of a field that is read: a refusal has none
+abbrev pub days_read : Result FieldRead Refusal → List ℕ
+days_read (Ok f) = f.days
+days_read (Err r) = padded readings_most []
+
 -- r is what judging a step gives, with the days of a field that it adds
-pub record ReadsField (s : Step) (r : FieldRead) : Type 0 where
-  pub judges : gist_of r.verdict ≡ gist s
-  pub days : r.days ≡ padded readings_most (days_in s)
+pub record ReadsField (s : Step) (r : Result FieldRead Refusal) : Type 0 where
+  pub judges : gist_of (verdict_on r) ≡ gist s
+  pub days : days_read r ≡ padded readings_most (days_in s)

@@ -24,11 +24,11 @@ use Rattle.scan.specs.Sheet.{byte_at, number_at, raised, Record, field, gap, str
 -- what comes after a check that let a record or the end pass
 pub check_more : (b : Bool) (k at : ℕ) (s : Step) (r : Record) (n : ℕ) → check b k at s ≡ more r n → (b ≡ true) × (s ≡ more r n)
 check_more true k at s r n e = (refl, e)
-check_more false k at s r n e = absurd (let z : ◌≡◌ {A = ℕ} 0 1 = cc in omega arith)
+check_more false k at s r n e = absurd (cc)
 
 pub check_done : (b : Bool) (k at : ℕ) (s : Step) → check b k at s ≡ done → (b ≡ true) × (s ≡ done)
 check_done true k at s e = (refl, e)
-check_done false k at s e = absurd (let z : ◌≡◌ {A = ℕ} 0 1 = cc in omega arith)
+check_done false k at s e = absurd (cc)
 
 -- what a record that stands is, and what lets it stand
 
@@ -47,7 +47,7 @@ date-stands sep size s at r n e =
   where
     go : (k : ℕ) → cond (eqb k 0) (more (field (means sep (take size (drop (at + 2) s)))) (at + 2 + size)) (stop (says k (at ∷ []))) ≡ more r n → (k ≡ 0) × (r ≡ field (means sep (take size (drop (at + 2) s)))) × (n ≡ at + 2 + size)
     go zero f = (refl, cc, cc)
-    go (suc k) f = let g = rw (eqb-suc-zero k) at f in absurd (let z : ◌≡◌ {A = ℕ} 0 1 = cc in omega arith)
+    go (suc k) f = let g = rw (eqb-suc-zero k) at f in absurd (cc)
 
 pub record DaysStand (s : List ℕ) (at : ℕ) (r : Record) (n : ℕ) : Type 0 where
   pub some : 1 ≤ byte_at s (at + 2)
@@ -60,7 +60,7 @@ pub record DaysStand (s : List ℕ) (at : ℕ) (r : Record) (n : ℕ) : Type 0 w
 
 both : (a b : Bool) → (a && b) ≡ true → (a ≡ true) × (b ≡ true)
 both true b e = (refl, e)
-both false b e = absurd (let z : ◌≡◌ {A = ℕ} 0 1 = cc in omega arith)
+both false b e = absurd (cc)
 
 pub days_stand : (s : List ℕ) (at : ℕ) (r : Record) (n : ℕ) → days_at s at ≡ more r n → DaysStand s at r n
 unfolding days_at
@@ -117,8 +117,8 @@ unfolding end_at
 end_no_more z s at r n = go (ltb 0 (length z))
   where
     go : (b : Bool) → cond b (check (eqb (length s) (at + 2)) 23 at done) (stop (says 1 [])) ≡ more r n → ⊥
-    go true e = let m = (check_more (eqb (length s) (at + 2)) 23 at done r n e).1 in let z : ◌≡◌ {A = ℕ} 0 1 = cc m in omega arith
-    go false e = let z : ◌≡◌ {A = ℕ} 0 1 = cc in omega arith
+    go true e = let m = (check_more (eqb (length s) (at + 2)) 23 at done r n e).1 in cc m
+    go false e = cc
 
 -- no record is the end
 
@@ -127,8 +127,8 @@ unfolding date_at
 date_no_end sep size s at e = go (date_says sep (take size (drop (at + 2) s))).state (check_done (leb (at + 2 + size) (length s)) 15 at _ e).1
   where
     go : (k : ℕ) → cond (eqb k 0) (more (field (means sep (take size (drop (at + 2) s)))) (at + 2 + size)) (stop (says k (at ∷ []))) ≡ done → ⊥
-    go zero f = let z : ◌≡◌ {A = ℕ} 0 1 = cc in omega arith
-    go (suc k) f = let g = rw (eqb-suc-zero k) at f in let z : ◌≡◌ {A = ℕ} 0 1 = cc in omega arith
+    go zero f = cc
+    go (suc k) f = let g = rw (eqb-suc-zero k) at f in cc
 
 pub days_no_end : (s : List ℕ) (at : ℕ) → days_at s at ≡ done → ⊥
 unfolding days_at
@@ -139,7 +139,7 @@ days_no_end s at e =
     let d = check_done (leb 1 k && leb k readings_most) 21 at _ c.1 in
     let f = check_done (leb (at + 3 + 2 * k) (length s)) 15 at _ d.1 in
     let g = (check_done (ascending l && early l) 21 at (more (field l) (at + 3 + 2 * k)) f.1).1 in
-    let z : ◌≡◌ {A = ℕ} 0 1 = cc g in omega arith
+    cc g
 
 pub gap_no_end : (z s : List ℕ) (at : ℕ) → gap_at z s at ≡ done → ⊥
 unfolding gap_at
@@ -150,7 +150,7 @@ gap_no_end z s at e =
     let hi = raised (number_at s (at + 6)) in
     let c = check_done (leb (at + 8) (length s)) 15 at _ e in
     let g = (check_done (gap_right z i j lo hi) 22 at (more (gap i j lo hi) (at + 8)) c.1).1 in
-    let z : ◌≡◌ {A = ℕ} 0 1 = cc g in omega arith
+    cc g
 
 pub strike_no_end : (z s : List ℕ) (at : ℕ) → strike_at z s at ≡ done → ⊥
 unfolding strike_at
@@ -161,7 +161,7 @@ strike_no_end z s at e =
     let b = byte_at s (at + 5) in
     let c = check_done (leb (at + 6) (length s)) 15 at _ e in
     let g = (check_done (strike_right z i j a b) 22 at (more (strike i j a b) (at + 6)) c.1).1 in
-    let z : ◌≡◌ {A = ℕ} 0 1 = cc g in omega arith
+    cc g
 
 pub adds-done : (t : Told) (at : ℕ) (x : Step) → adds t at x ≡ done → x ≡ done
 adds-done t at x e =
@@ -174,7 +174,7 @@ end_some z s at = go (ltb 0 (length z)) refl
   where
     go : (b : Bool) → ltb 0 (length z) ≡ b → cond b (check (eqb (length s) (at + 2)) 23 at done) (stop (says 1 [])) ≡ done → 1 ≤ length z
     go true h e = omega (arith, ltb-true 0 (length z) h)
-    go false h e = absurd (let z : ◌≡◌ {A = ℕ} 0 1 = cc in omega arith)
+    go false h e = absurd (cc)
 
 -- a step
 
@@ -210,7 +210,7 @@ step_forward sep t s at r n e = go (mark_of (number_at s at)) (step_more sep t s
     go Gap f = omega (arith, gap_stands t.sizes s at r n f)
     go Strike f = omega (arith, strike-stands t.sizes s at r n f)
     go End f = absurd (end_no_more t.sizes s at r n f)
-    go Unknown f = absurd (let z : ◌≡◌ {A = ℕ} 0 1 = cc f in omega arith)
+    go Unknown f = absurd (cc f)
 
 -- a fault's number is 1 or comes after 14, so that none is taken for a result or for a check before the scan
 
@@ -225,10 +225,10 @@ abbrev Faults : ℕ → Step → Type 0
 Faults at x = (q : Said) → x ≡ stop q → Fault at q
 
 faults_more : (at : ℕ) (r : Record) (n : ℕ) → Faults at (more r n)
-faults_more at r n q e = absurd (let z : ◌≡◌ {A = ℕ} 0 1 = cc e in omega arith)
+faults_more at r n q e = absurd (cc e)
 
 faults_done : (at : ℕ) → Faults at done
-faults_done at q e = absurd (let z : ◌≡◌ {A = ℕ} 0 1 = cc e in omega arith)
+faults_done at q e = absurd (cc e)
 
 fault_here : (k at : ℕ) → 15 ≤ k → k ≤ 23 → Fault at (says k (at ∷ []))
 fault_here k at h l = record { number = inr h; most = l; place = inr refl }
@@ -379,7 +379,7 @@ module _ (sep : ℕ → Bool) (s : List ℕ) where
       go : (x : Step) → step_at sep (told rs) s at ≡ x → Going rs at all
       go (more r n) e = goes r n e (sym (scan_more rs at r n e) ∙ w)
       go done e = over e (let f = sym (scan-done rs at e) ∙ w in cc f)
-      go (stop q) e = absurd (let f = sym (scan_stop rs at q e) ∙ w in let z : ◌≡◌ {A = ℕ} 0 1 = cc f in omega arith)
+      go (stop q) e = absurd (let f = sym (scan_stop rs at q e) ∙ w in cc f)
 
   -- the records before an offset
 

@@ -89,10 +89,10 @@ step_good sep t s at d n e = go (mark_of (number_at s at)) (step_more sep t s at
           a.1,
           a.0,
         )
-    go Gap f = absurd (let p = (gap_stands t.sizes s at (field d) n f).is in let z : ◌≡◌ {A = ℕ} 0 1 = cc p in omega arith)
-    go Strike f = absurd (let p = (strike-stands t.sizes s at (field d) n f).is in let z : ◌≡◌ {A = ℕ} 0 1 = cc p in omega arith)
+    go Gap f = absurd (let p = (gap_stands t.sizes s at (field d) n f).is in cc p)
+    go Strike f = absurd (let p = (strike-stands t.sizes s at (field d) n f).is in cc p)
     go End f = absurd (end_no_more t.sizes s at (field d) n f)
-    go Unknown f = absurd (let z : ◌≡◌ {A = ℕ} 0 1 = cc f in omega arith)
+    go Unknown f = absurd (cc f)
 
 -- one field more
 good_more : {fields : List (List ℕ)} {d : List ℕ} → GoodFields fields → GoodField d → length fields < fields_most → GoodFields (fields ++ d ∷ [])
@@ -147,7 +147,7 @@ module _ (sep : ℕ → Bool) (s : List ℕ) where
       go Gap f = absurd (gap_no_end t.sizes s at f)
       go Strike f = absurd (strike_no_end t.sizes s at f)
       go End f = end_some t.sizes s at f
-      go Unknown f = absurd (let z : ◌≡◌ {A = ℕ} 0 1 = cc f in omega arith)
+      go Unknown f = absurd (cc f)
 
   -- what holds of the records at the end of a scan that is whole holds of all records
   some-from : (k : ℕ) (rs : List Record) (at : ℕ) (all : List Record) → length s - at < k → scan_on sep s rs at ≡ whole all → 1 ≤ length (fields_of all)
@@ -184,7 +184,7 @@ module _ (sep : ℕ → Bool) (s : List ℕ) where
   late-from (suc k) rs at all h w l = go (going sep s rs at all w) (λ r n m v p. late-from k (rs ++ r ∷ []) n all m v p)
     where
       go : Going sep s rs at all → ((r : Record) (n : ℕ) → length s - n < k → scan_on sep s (rs ++ r ∷ []) n ≡ whole all → any_pair (rs ++ r ∷ []) ≡ true → fields_of all ≡ fields_of (rs ++ r ∷ [])) → fields_of all ≡ fields_of rs
-      go (goes (field d) n e v) f = absurd (let x = sym (step_good sep (told rs) s at d n e).2 ∙ told-late rs ∙ l in let z : ◌≡◌ {A = ℕ} 0 1 = cc x in omega arith)
+      go (goes (field d) n e v) f = absurd (let x = sym (step_good sep (told rs) s at d n e).2 ∙ told-late rs ∙ l in cc x)
       go (goes (gap i j lo hi) n e v) f = let w = step_forward sep (told rs) s at (gap i j lo hi) n e in f (gap i j lo hi) n (omega arith) v (late_pair rs (gap i j lo hi) refl) ∙ fields_pair rs (gap i j lo hi) refl
       go (goes (strike i j a b) n e v) f = let w = step_forward sep (told rs) s at (strike i j a b) n e in f (strike i j a b) n (omega arith) v (late_pair rs (strike i j a b) refl) ∙ fields_pair rs (strike i j a b) refl
       go (over e v) f = rw v

@@ -16,14 +16,9 @@ use refusal::Refusal;
 use step::Verdict;
 use table::FIELDS_MOST;
 
-// The number of fields, or the first fault.
-#[derive(Drop)]
-pub enum Opened {
-    Fields(usize),
-    Refused(Refusal),
-}
-
-pub fn scan(sheet: &[u8]) -> Opened
+// The number of fields, or the first fault. The sizes stand in an array with their number: no heap, and the archive for C stands on
+// no crate but these.
+pub fn scan(sheet: &[u8]) -> Result<usize, Refusal>
     ensures { said_opened result ≡ scan_says (scan separator sheet.now) }
 {
     let mut sizes = [0u8; FIELDS_MOST];
@@ -31,7 +26,7 @@ pub fn scan(sheet: &[u8]) -> Opened
     let mut late = false;
     let mut at = 0;
     loop {
-        match step::judge_at(sheet, at, &sizes[..n], late) {
+        match step::judge_at(sheet, at, &sizes[..n], late)? {
             Verdict::Field(size, next) => {
                 sizes[n] = size;
                 n += 1;
@@ -41,8 +36,7 @@ pub fn scan(sheet: &[u8]) -> Opened
                 late = true;
                 at = next;
             }
-            Verdict::End => return Opened::Fields(n),
-            Verdict::Stop(r) => return Opened::Refused(r),
+            Verdict::End => return Ok(n),
         }
     }
 }

@@ -14,7 +14,7 @@ pub fn number_at(sheet: &[u8], at: usize) -> u16
     requires { at + 2 ≤ length sheet.now }
     ensures { result ≡ number_at sheet.now at }
 {
-    sheet[at] as u16 * 256 + sheet[at + 1] as u16
+    u16::from_be_bytes([sheet[at], sheet[at + 1]])
 }
 
 // The signed number that the two bytes of u stand for, raised by 32,768.

@@ -6,7 +6,7 @@ ghost use Rattle.scan.specs.Judging.{ReadsInterval, ReadsPair};
 use crate::number;
 
 // GP: the days from a reading of field i to one of field j, from lo to hi, both raised by 32,768.
-#[derive(Drop)]
+#[derive(Clone, Copy)]
 pub struct Interval {
     pub i: usize,
     pub j: usize,
@@ -15,7 +15,7 @@ pub struct Interval {
 }
 
 // PR: reading a of field i with reading b of field j.
-#[derive(Drop)]
+#[derive(Clone, Copy)]
 pub struct Pair {
     pub i: usize,
     pub j: usize,
@@ -23,64 +23,50 @@ pub struct Pair {
     pub b: usize,
 }
 
-pub fn interval_at(sheet: &[u8], at: usize) -> Interval
-    requires { at + 8 ≤ length sheet.now }
-    ensures { ReadsInterval sheet.now at result }
-{
-    Interval {
-        i: number::byte_at(sheet, at + 2),
-        j: number::byte_at(sheet, at + 3),
-        lo: number::raised(number::number_at(sheet, at + 4)),
-        hi: number::raised(number::number_at(sheet, at + 6)),
+impl Interval {
+    pub fn at(sheet: &[u8], at: usize) -> Interval
+        requires { at + 8 ≤ length sheet.now }
+        ensures { ReadsInterval sheet.now at result }
+    {
+        Interval {
+            i: number::byte_at(sheet, at + 2),
+            j: number::byte_at(sheet, at + 3),
+            lo: number::raised(number::number_at(sheet, at + 4)),
+            hi: number::raised(number::number_at(sheet, at + 6)),
+        }
+    }
+
+    // It may stand in a sheet whose fields have these sizes.
+    #[tactic(auto, unfolding(crate::specs::Sheet::gap_right))]
+    pub fn is_right(&self, sizes: &[u8]) -> bool
+        ensures { result ≡ gap_right sizes.now self.now.i self.now.j self.now.lo self.now.hi }
+    {
+        self.i < sizes.len() && self.j < sizes.len() && self.i != self.j && self.lo <= self.hi
     }
 }
 
-pub fn pair_at(sheet: &[u8], at: usize) -> Pair
-    requires { at + 6 ≤ length sheet.now }
-    ensures { ReadsPair sheet.now at result }
-{
-    Pair {
-        i: number::byte_at(sheet, at + 2),
-        j: number::byte_at(sheet, at + 3),
-        a: number::byte_at(sheet, at + 4),
-        b: number::byte_at(sheet, at + 5),
+impl Pair {
+    pub fn at(sheet: &[u8], at: usize) -> Pair
+        requires { at + 6 ≤ length sheet.now }
+        ensures { ReadsPair sheet.now at result }
+    {
+        Pair {
+            i: number::byte_at(sheet, at + 2),
+            j: number::byte_at(sheet, at + 3),
+            a: number::byte_at(sheet, at + 4),
+            b: number::byte_at(sheet, at + 5),
+        }
     }
-}
 
-// g may stand in a sheet whose fields have these sizes.
-pub fn gap_right(g: Interval, sizes: &[u8]) -> bool
-    ensures { result ≡ gap_right sizes.now g.i g.j g.lo g.hi }
-{
-    if g.i >= sizes.len() {
-        return false;
+    // It may stand in a sheet whose fields have these sizes.
+    #[tactic(auto, unfolding(crate::specs::Sheet::strike_right))]
+    pub fn is_right(&self, sizes: &[u8]) -> bool
+        ensures { result ≡ strike_right sizes.now self.now.i self.now.j self.now.a self.now.b }
+    {
+        self.i < sizes.len()
+            && self.j < sizes.len()
+            && self.a < number::byte_at(sizes, self.i)
+            && self.b < number::byte_at(sizes, self.j)
+            && (self.i != self.j || self.a == self.b)
     }
-    if g.j >= sizes.len() {
-        return false;
-    }
-    if g.i == g.j {
-        return false;
-    }
-    g.lo <= g.hi
-}
-
-// p may stand in a sheet whose fields have these sizes.
-pub fn strike_right(p: Pair, sizes: &[u8]) -> bool
-    ensures { result ≡ strike_right sizes.now p.i p.j p.a p.b }
-{
-    if p.i >= sizes.len() {
-        return false;
-    }
-    if p.j >= sizes.len() {
-        return false;
-    }
-    if p.a >= number::byte_at(sizes, p.i) {
-        return false;
-    }
-    if p.b >= number::byte_at(sizes, p.j) {
-        return false;
-    }
-    if p.i != p.j {
-        return true;
-    }
-    p.a == p.b
 }

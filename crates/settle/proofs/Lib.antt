@@ -1,6 +1,5 @@
 pub mod Narrowing
 pub mod Striking
-pub mod Moving
 pub mod Marks
 pub mod Parts
 pub mod Emptiness

@@ -23,10 +23,13 @@ use Rattle.settle.specs.RoundLaws.{lost_in, lost-turned, moves_i, In, without_as
 
 -- a word with no bit, with bit i set, and then bit j
 pub two_bits : (i j v w : ℕ) → v ≡ pack 32 (λ f. bit 0 f || eqb f i) → w ≡ pack 32 (λ f. bit v f || eqb f j) → w ≡ pack 32 (λ f. eqb f i || eqb f j)
-two_bits i j v w ev ew = ew ∙ pack_same 32 _ _ (λ f hf. ap (λ (x : Bool). x || eqb f j) (ap (λ (x : ℕ). bit x f) ev ∙ (bit-pack 32 (λ g. bit 0 g || eqb g i) f hf ∙ ap (λ (x : Bool). x || eqb f i) (bit_none f))))
+two_bits i j v w ev ew =
+    ew ∙ pack_same 32 _ _ (λ f hf. ap (λ (x : Bool). x || eqb f j)
+    (ap (λ (x : ℕ). bit x f) ev ∙ (bit-pack 32 (λ g. bit 0 g || eqb g i) f hf ∙ ap (λ (x : Bool). x || eqb f i) (bit_none f))))
 
 -- a row less what a round leaves of it
-pub row_less_round : (n : ℕ) (t : List ℕ) (i j a v r : ℕ) → a < readings_most → v < 2 ^ 32 → v ≡ row n t i j a → r ≡ pack 32 (round n (rel n t) i j a) → bit_and v ((2 ^ 32 - 1) - r) ≡ pack 32 (lost n (rel n t) i j a)
+pub row_less_round : (n : ℕ) (t : List ℕ) (i j a v r : ℕ) → a < readings_most → v < 2 ^ 32 → v ≡ row n t i j a
+    → r ≡ pack 32 (round n (rel n t) i j a) → bit_and v ((2 ^ 32 - 1) - r) ≡ pack 32 (lost n (rel n t) i j a)
 unfolding lost
 row_less_round n t i j a v r ha h ev er = pack_of 32 (bit_and v ((2 ^ 32 - 1) - r)) (lost n (rel n t) i j a) (and_lt 32 v _ h (ones_sub-lt 32 r)) (λ b hb.
     bit-and v ((2 ^ 32 - 1) - r) b

@@ -1,5 +1,5 @@
 -- What the loop of `strike_bits` keeps: the bits of lost that are no longer in rest are struck, with their mirror images.
-use mathlib.Core.Path.{◌≡◌, refl, sym, subst, ◌∙◌}
+use mathlib.Core.Path.{◌≡◌, sym, subst, ◌∙◌}
 use mathlib.Core.Logic.{◌⊎◌, inl, inr}
 use mathlib.Core.Bool.{not, ◌&&◌}
 use mathlib.Core.List.{List}
@@ -20,7 +20,7 @@ use Rattle.words.specs.EndLaws.{first_one, clear_lowest}
 use Rattle.table.specs.Layout.{rel}
 use Rattle.table.specs.Strike.{one_pair, pair_and_mirror, Struck}
 use Rattle.settle.specs.Round.{OfPair, OfSome, Without}
-use Rattle.settle.specs.RoundLaws.{without_none, without_more, without_as}
+use Rattle.settle.specs.RoundLaws.{without_more, without_as}
 
 -- a pair struck, with its mirror image
 pub pair_struck : {n : ℕ} {t u : List ℕ} {i j a b : ℕ} → Struck n t i j a b u → Without n (OfPair i j a b) (rel n t) (rel n u)
@@ -52,13 +52,6 @@ pair_struck {n} {t} {u} {i} {j} {a} {b} s = record {
     ]
 
 module _ (n i j a : ℕ) where
-  pub some_none : {p : ℕ → Type 0} {A : Rel} → ((b : ℕ) → p b → ⊥) → Without n (OfSome i j a p) A A
-  some_none {p} f = without_none (λ k l c d hk hl s. none k l c d s)
-    where
-      none : (k l c d : ℕ) → OfSome i j a p k l c d → ⊥
-      none k l c d (inl s) = f d s.3
-      none k l c d (inr s) = f c s.3
-
   -- one more reading of the row
   pub some_more : {p q : ℕ → Type 0} {b : ℕ} {A B C : Rel} → Without n (OfSome i j a p) A B → Without n (OfPair i j a b) B C
       → ((d : ℕ) → q d → p d ⊎ (d ≡ b)) → ((d : ℕ) → p d → q d) → q b → Without n (OfSome i j a q) A C
@@ -99,14 +92,6 @@ pub record Striking (n i j a w : ℕ) (out₀ out : List ℕ) (rest : ℕ) : Typ
   pub struck : Without n (OfSome i j a (Past w rest)) (rel n out₀) (rel n out)
 
 module _ (n i j a w : ℕ) (out₀ : List ℕ) where
-  pub striking_start : w < 2 ^ 32 → Striking n i j a w out₀ out₀ w
-  striking_start h = record {
-    long = refl;
-    small = h;
-    inside = λ b t. t;
-    struck = some_none n i j a (λ b t. t.1 t.0);
-  }
-
   pub striking_more : (out out' : List ℕ) (rest b : ℕ) → Striking n i j a w out₀ out rest → 0 < rest → b ≡ first 32 (bit rest) → length out' ≡ length out
       → Without n (OfPair i j a b) (rel n out) (rel n out') → Striking n i j a w out₀ out' (bit_and rest (rest - 1))
   striking_more out out' rest b g h eb e v = record {

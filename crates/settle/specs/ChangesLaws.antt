@@ -1,5 +1,5 @@
 -- No row would change exactly when the table is settled; the first that would lies on or above the diagonal.
-use Rattle.std.specs.Prelude.{◌≡◌, refl, ◌⊎◌, Bool, [], ◌∷◌, ℕ, ◌≤◌, ◌<◌, T, leb}
+use Rattle.std.specs.Prelude.{◌≡◌, refl, ◌⊎◌, Bool, [], ◌∷◌, ℕ, ◌≤◌, ◌<◌, T, leb, ltb, cond, Option, Some, None, option_map}
 use Rattle.std.proofs.Common.{sym, ap, subst, ◌∙◌, inl, inr, arith, le→leb, lit≤}
 use Rattle.theory.specs.Limits.{readings_most}
 use Rattle.theory.specs.Bound.{first}
@@ -8,14 +8,12 @@ use Rattle.theory.specs.Relation.{Rel, Settled}
 use Rattle.theory.proofs.RelationLaws.{within_settled, settled_unchanged}
 use Rattle.refusal.specs.Said.{Said, says, refused}
 use Rattle.refusal.specs.declared.Refusal.TheVariants.{Unsettled}
-use Rattle.table.specs.Layout.{table_rows, table_row, row_number, at, first_row}
+use Rattle.table.specs.Layout.{table_rows, table_row, row_number, at, first_row, some_first, some_first_row}
 use Rattle.table.specs.LayoutLaws.{Narrow, row_in, row_of_number, number_of_row, number_by_field}
 use Rattle.table.specs.Checks.{Check}
 use Rattle.table.specs.CheckLaws.{check_of, passed, refused_on}
 use Rattle.table.specs.ShapeLaws.{Clear, check-rows}
-use Rattle.table.specs.declared.layout.Row.{Row as TableRow}
-use Rattle.settle.specs.declared.changes.Changed.{Changed}
-use Rattle.settle.specs.declared.changes.Changed.TheVariants.{Row, Nowhere}
+use Rattle.table.specs.declared.layout.Row.{Row}
 use Rattle.settle.specs.Round.{lost, changed_row, Turned}
 use Rattle.settle.specs.RoundLaws.{lost_in, lost_out, not-lost, lost-turned}
 use Rattle.settle.specs.Changes.{after_settled, said_changed, changed_above}
@@ -44,30 +42,30 @@ check-settled n R w = check_of (clear-settled n R w) (settled-clear n R) (check-
 
 -- what the answer tells whoever asked
 
-module _ (n : ℕ) (R : Rel) (w : Narrow n R) {x : Changed} (e : said_changed x ≡ after_settled n R (says 0 [])) where
+module _ (n : ℕ) (R : Rel) (w : Narrow n R) {x : Option Row} (e : said_changed x ≡ after_settled n R (says 0 [])) where
   -- the row is refused, whatever comes after
-  pub told-row : (i j a : ℕ) → x ≡ Row i j a → (rest : Said) → refused (Unsettled i j a) ≡ after_settled n R rest
-  told-row i j a h = refused_on (check-settled n R w) (Unsettled i j a) (sym (ap said_changed h) ∙ e)
+  pub told-row : (r : Row) → x ≡ Some r → (rest : Said) → refused (Unsettled r.i r.j r.a) ≡ after_settled n R rest
+  told-row r h = refused_on (check-settled n R w) (Unsettled r.i r.j r.a) (sym (ap said_changed h) ∙ e)
 
-  pub told-settled : x ≡ Nowhere → Settled n R
+  pub told-settled : x ≡ None → Settled n R
   told-settled h = passed (check-settled n R w) (sym (ap said_changed h) ∙ e)
 
   -- and what comes after has the word
-  pub told_on : x ≡ Nowhere → (rest : Said) → rest ≡ after_settled n R rest
+  pub told_on : x ≡ None → (rest : Said) → rest ≡ after_settled n R rest
   told_on h rest = sym ((check-settled n R w).passes (told-settled h) rest)
 
 -- an answer that says the same is the same
 
-pub changed_determined : (x y : Changed) → said_changed x ≡ said_changed y → x ≡ y
-changed_determined (Row i j a) (Row k l c) p =
-    let v : i ∷ j ∷ a ∷ [] ≡ k ∷ l ∷ c ∷ [] = ap (λ (s : Said). s.values) p in
-    let d : i ≡ k = cc in
-    let e : j ≡ l = cc in
-    let f : a ≡ c = cc in
-    rw (d, e, f)
-changed_determined (Row i j a) Nowhere p = let z : ◌≡◌ {A = ℕ} 8 0 = ap (λ (s : Said). s.state) p in absurd (omega arith)
-changed_determined Nowhere (Row i j a) p = let z : ◌≡◌ {A = ℕ} 0 8 = ap (λ (s : Said). s.state) p in absurd (omega arith)
-changed_determined Nowhere Nowhere p = refl
+pub changed_determined : (x y : Option Row) → said_changed x ≡ said_changed y → x ≡ y
+changed_determined (Some r) (Some q) p =
+    let v : r.i ∷ r.j ∷ r.a ∷ [] ≡ q.i ∷ q.j ∷ q.a ∷ [] = ap (λ (s : Said). s.values) p in
+    let i : r.i ≡ q.i = cc in
+    let j : r.j ≡ q.j = cc in
+    let a : r.a ≡ q.a = cc in
+    ap Some (λ x. record { i = i x; j = j x; a = a x })
+changed_determined (Some r) None p = let z : ◌≡◌ {A = ℕ} 8 0 = ap (λ (s : Said). s.state) p in absurd (omega arith)
+changed_determined None (Some r) p = let z : ◌≡◌ {A = ℕ} 0 8 = ap (λ (s : Said). s.state) p in absurd (omega arith)
+changed_determined None None p = refl
 
 -- a row below the diagonal has an earlier partner
 pub above-first : (n : ℕ) (R : Rel) → Turned n R → Narrow n R → first_row n (changed_above n R) ≡ first_row n (changed_row n R)
@@ -106,5 +104,9 @@ above-first n R turn w = sym (first_is (table_rows n) (λ p. at (changed_row n R
             let m = w i j a b r.first r.second (lost_in n R i j a b s) in
             first_least (table_rows n) above (row_number n j i b)
             (omega (arith, number_of_row n q, number_by_field n j i b i j a r.first hb h))
-            (subst (λ (x : TableRow). T (at (changed_above n R) x)) (sym (row_of_number n j i b r.first hb))
+            (subst (λ (x : Row). T (at (changed_above n R) x)) (sym (row_of_number n j i b r.first hb))
             (and_i (leb j i) _ (le→leb j i (omega arith)) (changed_i n R j i b a m.0 (lost-turned n R turn i j a b r.first r.second s))))
+
+pub above_first : (n : ℕ) (R : Rel) → Turned n R → Narrow n R → some_first_row n (changed_above n R) ≡ some_first_row n (changed_row n R)
+unfolding some_first_row some_first
+above_first n R turn w = ap (λ (f : ℕ). option_map (table_row n) (cond (ltb f (table_rows n)) (Some f) None)) (above-first n R turn w)

@@ -1,4 +1,5 @@
 pub mod Round
+pub mod Source
 pub mod RoundLaws
 pub mod Settle
 pub mod SettleLaws

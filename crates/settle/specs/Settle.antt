@@ -1,14 +1,14 @@
 -- What settling answers, and what it leaves in the table and in scratch (01, "Settling").
-use Rattle.std.specs.Prelude.{◌≡◌, cond, List, [], ◌∷◌, ℕ, min, eqb, leb, length}
+use Rattle.std.specs.Prelude.{◌≡◌, Bool, cond, List, [], ◌∷◌, ℕ, min, eqb, leb, length, Option, Some, None, Result, Ok}
 use Rattle.theory.specs.Bound.{val}
 use Rattle.theory.specs.Relation.{Rel, round, rounds}
 use Rattle.theory.specs.Reading.{empty}
 use Rattle.theory.specs.Settling.{steps}
-use Rattle.refusal.specs.Said.{Said, says, refused}
+use Rattle.refusal.specs.Said.{Said, says, said_by}
+use Rattle.refusal.specs.declared.Refusal.{Refusal}
 use Rattle.table.specs.Layout.{table_length, rel, words}
 use Rattle.table.specs.Shape.{after_shape, GoodTable}
-use Rattle.settle.specs.declared.Settling.{Settling}
-use Rattle.settle.specs.declared.Settling.TheVariants.{Settled, Unfinished, Refused}
+use Rattle.settle.specs.declared.Settled.{Settled}
 
 -- what a table stands for, by its sizes
 abbrev pub rel_of : List ℕ → List ℕ → Rel
@@ -19,11 +19,25 @@ pub record GoodLent (sizes t s : List ℕ) : Type 0 where
   pub good : GoodTable sizes t
   pub other : length s ≡ table_length (length sizes)
 
+-- what settling answers: what it came to, or nothing where the budget is spent, or a refusal
+abbrev pub Settling : Type 0
+Settling = Result (Option Settled) Refusal
+
+-- settled after r rounds, empty or not
+abbrev pub settled_after : ℕ → Bool → Settling
+settled_after r e = Ok (Some (record { rounds = r; empty = e }))
+
+-- the budget is spent
+abbrev pub unfinished : Settling
+unfinished = Ok None
+
 -- settled says r and 1 for empty or 0; unfinished says no value
+abbrev pub said_settled : Option Settled → Said
+said_settled (Some x) = says 0 (x.rounds ∷ val x.empty ∷ [])
+said_settled None = says 0 []
+
 abbrev pub said_settling : Settling → Said
-said_settling (Settled r e) = says 0 (r ∷ val e ∷ [])
-said_settling Unfinished = says 0 []
-said_settling (Refused q) = refused q
+said_settling = said_by said_settled
 
 -- 1 to 7: the checks of sizes, table and scratch, then the rest
 unfoldable pub after_lent : List ℕ → List ℕ → List ℕ → Said → Said

@@ -1,6 +1,6 @@
 -- The checks 1 to 7 refuse exactly what is not a good table with scratch of its length; what settling says determines its answer.
-use Rattle.std.specs.Prelude.{◌≡◌, refl, Bool, true, false, cond, List, [], ◌∷◌, ℕ, ◌≤◌, ◌<◌, eqb, leb, length}
-use Rattle.std.proofs.Common.{sym, ap, ap₂, ◌∙◌, arith, eqb→eq, lit≤, ne_eqb, le-leb}
+use Rattle.std.specs.Prelude.{◌≡◌, refl, Bool, true, false, cond, List, [], ◌∷◌, ℕ, ◌≤◌, ◌<◌, eqb, leb, length, Option, Some, None}
+use Rattle.std.proofs.Common.{sym, ap, ◌∙◌, arith, eqb→eq, lit≤, ne_eqb, le-leb}
 use Rattle.std.proofs.Math.Dec.{eqb_refl}
 use Rattle.std.proofs.lemmas.Bool.{lt-leb}
 use Rattle.theory.specs.Bound.{val}
@@ -10,24 +10,23 @@ use Rattle.theory.specs.Settling.{steps}
 use Rattle.refusal.specs.Said.{Said, says, refused}
 use Rattle.refusal.specs.Refusals.{number}
 use Rattle.refusal.specs.RefusalLaws.{numbered}
-use Rattle.refusal.proofs.Determined.{refused_determines}
+use Rattle.refusal.proofs.Determined.{said_determines}
 use Rattle.refusal.specs.declared.Refusal.{Refusal}
 use Rattle.table.specs.Layout.{table_length, rel, words}
 use Rattle.table.specs.Checks.{Check}
 use Rattle.table.specs.CheckLaws.{both, check_of, check_test}
-use Rattle.table.specs.AnswerLaws.{no_result}
 use Rattle.table.specs.Shape.{after_shape}
 use Rattle.table.specs.ShapeLaws.{check_shape}
-use Rattle.settle.specs.declared.Settling.{Settling}
-use Rattle.settle.specs.declared.Settling.TheVariants.{Settled, Unfinished, Refused}
-use Rattle.settle.specs.Settle.{GoodLent, said_settling, after_lent, rounds_say, settle_says, reached, table_after, scratch_after, Settlement}
+use Rattle.settle.specs.declared.Settled.{Settled}
+use Rattle.settle.specs.Settle.{GoodLent, Settling, said_settled, said_settling, after_lent, rounds_say, settle_says, reached, table_after, scratch_after, Settlement}
 
 pub check-lent : (sizes t s : List ℕ) → Check (GoodLent sizes t s) (after_lent sizes t s)
 unfolding after_lent
 check-lent sizes t s =
     check_of (λ h. record { good = h.0; other = h.1 }) (λ g. (g.good, g.other))
     (both {A = after_shape sizes t} (check_shape sizes t)
-    (λ _. check_of (eqb→eq (length s) (table_length (length sizes))) (λ e. rw e (eqb_refl (table_length (length sizes)))) (check_test (eqb (length s) (table_length (length sizes))) (says 7 []) (lit≤ tt))))
+    (λ _. check_of (eqb→eq (length s) (table_length (length sizes))) (λ e. rw e (eqb_refl (table_length (length sizes))))
+    (check_test (eqb (length s) (table_length (length sizes))) (says 7 []) (lit≤ tt))))
 
 -- what rounds say
 
@@ -87,27 +86,24 @@ val_same true false e = absurd (omega arith)
 val_same false true e = absurd (omega arith)
 val_same false false e = refl
 
+settled-determined : (x y : Option Settled) → said_settled x ≡ said_settled y → x ≡ y
+settled-determined (Some x) (Some y) p =
+    let v : x.rounds ∷ val x.empty ∷ [] ≡ y.rounds ∷ val y.empty ∷ [] = ap (λ (s : Said). s.values) p in
+    let r : x.rounds ≡ y.rounds = cc in
+    let f : val x.empty ≡ val y.empty = cc in
+    ap Some (λ i. record { rounds = r i; empty = val_same x.empty y.empty f i })
+settled-determined (Some x) None p = let v : x.rounds ∷ val x.empty ∷ [] ≡ [] = ap (λ (s : Said). s.values) p in cc
+settled-determined None (Some y) p = let v : [] ≡ y.rounds ∷ val y.empty ∷ [] = ap (λ (s : Said). s.values) p in cc
+settled-determined None None p = refl
+
 pub settling_determined : (x y : Settling) → said_settling x ≡ said_settling y → x ≡ y
-settling_determined (Settled r e) (Settled q d) p =
-    let v : r ∷ val e ∷ [] ≡ q ∷ val d ∷ [] = ap (λ (s : Said). s.values) p in
-    let a : r ≡ q = cc in
-    let b : val e ≡ val d = cc in
-    ap₂ Settled a (val_same e d b)
-settling_determined (Settled r e) Unfinished p = absurd (filled r (val e ∷ []) (ap (λ (s : Said). s.values) p))
+settling_determined = said_determines said_settled result settled-determined
   where
-    filled : (x : ℕ) (l : List ℕ) → x ∷ l ≡ [] → ⊥
-    filled x l e = let z : ◌≡◌ {A = ℕ} 0 1 = cc in omega arith
-settling_determined (Settled r e) (Refused q) p = absurd (no_result q (sym p))
-settling_determined Unfinished (Settled r e) p = absurd (filled r (val e ∷ []) (ap (λ (s : Said). s.values) p))
-  where
-    filled : (x : ℕ) (l : List ℕ) → [] ≡ x ∷ l → ⊥
-    filled x l e = let z : ◌≡◌ {A = ℕ} 0 1 = cc in omega arith
-settling_determined Unfinished Unfinished p = refl
-settling_determined Unfinished (Refused q) p = absurd (no_result q (sym p))
-settling_determined (Refused q) (Settled r e) p = absurd (no_result q p)
-settling_determined (Refused q) Unfinished p = absurd (no_result q p)
-settling_determined (Refused q) (Refused r) p = ap Refused (refused_determines q r p)
+    result : (x : Option Settled) → (said_settled x).state ≡ 0
+    result (Some x) = refl
+    result None = refl
 
 -- the promise has one answer and one final state
-pub settlement_unique : {sizes t s : List ℕ} {budget : ℕ} {x y : Settling} {t₁ s₁ t₂ s₂ : List ℕ} → Settlement sizes t s budget x t₁ s₁ → Settlement sizes t s budget y t₂ s₂ → (x ≡ y) × (t₁ ≡ t₂) × (s₁ ≡ s₂)
+pub settlement_unique : {sizes t s : List ℕ} {budget : ℕ} {x y : Settling} {t₁ s₁ t₂ s₂ : List ℕ}
+    → Settlement sizes t s budget x t₁ s₁ → Settlement sizes t s budget y t₂ s₂ → (x ≡ y) × (t₁ ≡ t₂) × (s₁ ≡ s₂)
 settlement_unique {x = x} {y = y} p q = (settling_determined x y (p.says ∙ sym q.says), p.table ∙ sym q.table, p.scratch ∙ sym q.scratch)

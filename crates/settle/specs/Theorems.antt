@@ -1,5 +1,5 @@
 -- What settling comes to, from its promise alone, each beside the sentence of 01 that it carries.
-use Rattle.std.specs.Prelude.{◌≡◌, refl, ◌↔◌, ◌⊎◌, Bool, true, not, List, [], ◌∷◌, T, length}
+use Rattle.std.specs.Prelude.{◌≡◌, refl, ◌↔◌, ◌⊎◌, Bool, true, not, List, [], ◌∷◌, T, length, Option, Some, None, Ok, Err}
 use Rattle.std.proofs.Math.Path.{sym}
 use Rattle.std.proofs.Common.{ap, ◌∙◌, inl, inr}
 use Prim.Native.Nat.{ℕ, min, ◌≤◌, ◌<◌}
@@ -24,18 +24,15 @@ use Rattle.table.specs.Checks.{Refuses}
 use Rattle.table.specs.AnswerLaws.{no_result}
 use Rattle.table.specs.Shape.{GoodTable, after_shape}
 use Rattle.table.specs.ShapeLaws.{check_shape}
-use Rattle.settle.specs.declared.Settling.{Settling}
-use Rattle.settle.specs.declared.Settling.TheVariants as answer
-use Rattle.settle.specs.declared.changes.Changed.{Changed}
-use Rattle.settle.specs.declared.changes.Changed.TheVariants.{Nowhere}
+use Rattle.table.specs.declared.layout.Row.{Row}
 use Rattle.settle.specs.Changes.{after_settled, said_changed}
 use Rattle.settle.specs.ChangesLaws.{check-settled, told-settled, changed_determined}
-use Rattle.settle.specs.Settle.{rel_of, GoodLent, said_settling, after_lent, rounds_say, settle_says, reached, Settlement}
+use Rattle.settle.specs.Settle.{rel_of, GoodLent, Settling, settled_after, unfinished, said_settling, after_lent, rounds_say, settle_says, reached, Settlement}
 use Rattle.settle.specs.SettleLaws.{check-lent, says-settled, says-unfinished, good-says, good-table, good-scratch, refused-table, refused-scratch, val_same}
 
 -- 1. Refusals: "a number is given exactly when its check is the first to fail. Refusals write nothing."
 
-pub refusal_writes_nothing : {sizes t s : List ℕ} {budget : ℕ} {q : Refusal} {t' s' : List ℕ} → Settlement sizes t s budget (answer.Refused q) t' s' → (t' ≡ t) × (s' ≡ s)
+pub refusal_writes_nothing : {sizes t s : List ℕ} {budget : ℕ} {q : Refusal} {t' s' : List ℕ} → Settlement sizes t s budget (Err q) t' s' → (t' ≡ t) × (s' ≡ s)
 refusal_writes_nothing {sizes} {t} {s} {budget} {q} p = (p.table ∙ refused-table sizes t s budget q p.says, p.scratch ∙ refused-scratch sizes t s budget q p.says)
 
 -- what is not refused is a good table with scratch of its length
@@ -74,7 +71,8 @@ module _ {sizes t s : List ℕ} {budget : ℕ} {x : Settling} {t' s' : List ℕ}
   result_is_good = record {
     good = good.good.good;
     long = ap length left ∙ length-words (length sizes) (reached (length sizes) (rel_of sizes t) budget);
-    formed = agree_wf (length sizes) (reached (length sizes) (rel_of sizes t) budget) (rel_of sizes t') (agree_sym (length sizes) (rel_of sizes t') (reached (length sizes) (rel_of sizes t) budget) table_stands_for_reached) reached-formed;
+    formed = agree_wf (length sizes) (reached (length sizes) (rel_of sizes t) budget) (rel_of sizes t')
+        (agree_sym (length sizes) (rel_of sizes t') (reached (length sizes) (rel_of sizes t) budget) table_stands_for_reached) reached-formed;
   }
 
   -- so the checks 1 to 6 pass it on
@@ -84,7 +82,8 @@ module _ {sizes t s : List ℕ} {budget : ℕ} {x : Settling} {t' s' : List ℕ}
   pub scratch_is_one_round_further : s' ≡ words (length sizes) (round (length sizes) (rel_of sizes t'))
   scratch_is_one_round_further =
       p.scratch ∙ (good-scratch good budget ∙ words_same (length sizes) (round (length sizes) (reached (length sizes) (rel_of sizes t) budget)) (round (length sizes) (rel_of sizes t'))
-      (agree_round (length sizes) (reached (length sizes) (rel_of sizes t) budget) (rel_of sizes t') (agree_sym (length sizes) (rel_of sizes t') (reached (length sizes) (rel_of sizes t) budget) table_stands_for_reached)))
+      (agree_round (length sizes) (reached (length sizes) (rel_of sizes t) budget) (rel_of sizes t')
+      (agree_sym (length sizes) (rel_of sizes t') (reached (length sizes) (rel_of sizes t) budget) table_stands_for_reached)))
 
   -- no settled relation within the given one has lost a pair
   pub result_is_sound : Sound (length sizes) (rel_of sizes t) (rel_of sizes t')
@@ -111,7 +110,8 @@ module _ {sizes t s : List ℕ} {budget : ℕ} {x : Settling} {t' s' : List ℕ}
       }
 
 -- a settled table needs no round, and neither its words change
-pub settled_needs_no_round : {sizes t s : List ℕ} → GoodLent sizes t s → Fit t → Settled (length sizes) (rel_of sizes t) → (budget : ℕ) → Settlement sizes t s budget (answer.Settled 0 (empty (length sizes) (rel_of sizes t))) t t
+pub settled_needs_no_round : {sizes t s : List ℕ} → GoodLent sizes t s → Fit t → Settled (length sizes) (rel_of sizes t) → (budget : ℕ)
+    → Settlement sizes t s budget (settled_after 0 (empty (length sizes) (rel_of sizes t))) t t
 unfolding reached rounds
 settled_needs_no_round {sizes} {t} {s} g f c budget =
     let none : steps (length sizes) (rel_of sizes t) ≡ 0 = omega (arith, steps_are_least (length sizes) (rel_of sizes t) 0 (settled_unchanged (length sizes) (rel_of sizes t) c)) in
@@ -125,7 +125,7 @@ settled_needs_no_round {sizes} {t} {s} g f c budget =
 
 -- 3. Settled: "If r is at most the budget, the answer is settled, r, and whether it is empty; the table holds the result."
 
-module _ {sizes t s : List ℕ} {budget r : ℕ} {e : Bool} {t' s' : List ℕ} (p : Settlement sizes t s budget (answer.Settled r e) t' s') where
+module _ {sizes t s : List ℕ} {budget r : ℕ} {e : Bool} {t' s' : List ℕ} (p : Settlement sizes t s budget (settled_after r e) t' s') where
   settled-good : GoodLent sizes t s
   settled-good = answered_is_good p refl
 
@@ -133,7 +133,8 @@ module _ {sizes t s : List ℕ} {budget r : ℕ} {e : Bool} {t' s' : List ℕ} (
   settled-formed = settled-good.good.formed
 
   -- r and the flag
-  settled-values : (steps (length sizes) (rel_of sizes t) ≤ budget) × (r ≡ steps (length sizes) (rel_of sizes t)) × (val e ≡ val (empty (length sizes) (rounds (length sizes) (steps (length sizes) (rel_of sizes t)) (rel_of sizes t))))
+  settled-values : (steps (length sizes) (rel_of sizes t) ≤ budget) × (r ≡ steps (length sizes) (rel_of sizes t))
+      × (val e ≡ val (empty (length sizes) (rounds (length sizes) (steps (length sizes) (rel_of sizes t)) (rel_of sizes t))))
   settled-values = elim (lt_or_ge budget (steps (length sizes) (rel_of sizes t))) [
     | inl l ↦ absurd (filled (ap (λ (a : Said). a.values) (p.says ∙ (good-says settled-good budget ∙ says-unfinished (length sizes) (rel_of sizes t) budget l))))
     | inr l ↦ let v = ap (λ (a : Said). a.values) (p.says ∙ (good-says settled-good budget ∙ says-settled (length sizes) (rel_of sizes t) budget l)) in (l, one v, two v)
@@ -165,7 +166,8 @@ module _ {sizes t s : List ℕ} {budget r : ℕ} {e : Bool} {t' s' : List ℕ} (
   pub settled_table_is_largest : Largest (length sizes) (rel_of sizes t) (rel_of sizes t')
   settled_table_is_largest =
       sound_largest (result_is_sound p refl)
-      (agree_settled (length sizes) (rounds (length sizes) r (rel_of sizes t)) (rel_of sizes t') (agree_sym (length sizes) (rel_of sizes t') (rounds (length sizes) r (rel_of sizes t)) settled-stands) settled-settled)
+      (agree_settled (length sizes) (rounds (length sizes) r (rel_of sizes t)) (rel_of sizes t')
+      (agree_sym (length sizes) (rel_of sizes t') (rounds (length sizes) r (rel_of sizes t)) settled-stands) settled-settled)
 
   -- however that is reached, the words are these
   pub settled_table_is_one : (M : Rel) → Largest (length sizes) (rel_of sizes t) M → t' ≡ words (length sizes) M
@@ -184,7 +186,9 @@ module _ {sizes t s : List ℕ} {budget r : ℕ} {e : Bool} {t' s' : List ℕ} (
   pub settled_flag_is_empty : e ≡ empty (length sizes) (rel_of sizes t')
   settled_flag_is_empty =
       let (h, q, v) = settled-values in
-      val_same e _ v ∙ (ap (λ (k : ℕ). empty (length sizes) (rounds (length sizes) k (rel_of sizes t))) (sym q) ∙ sym (agree_empty (length sizes) (rel_of sizes t') (rounds (length sizes) r (rel_of sizes t)) settled-stands))
+      val_same e _ v
+      ∙ (ap (λ (k : ℕ). empty (length sizes) (rounds (length sizes) k (rel_of sizes t))) (sym q)
+      ∙ sym (agree_empty (length sizes) (rel_of sizes t') (rounds (length sizes) r (rel_of sizes t)) settled-stands))
 
   pub settled_cells_hold_or_none : (i j : ℕ) → i < length sizes → j < length sizes → holds (rel_of sizes t') i j ≡ not e
   settled_cells_hold_or_none i j hi hj = rw settled_flag_is_empty (T_ext (holds (rel_of sizes t') i j) (not (empty (length sizes) (rel_of sizes t')))
@@ -202,19 +206,21 @@ module _ {sizes t s : List ℕ} {budget r : ℕ} {e : Bool} {t' s' : List ℕ} (
   settled_rounds_at_most_pairs = (rw settled-values.1 (steps-le settled-formed), omega (arith, pairs_most_lem settled-formed, pairs_most_limit (length sizes) settled-good.good.good.few))
 
   -- "A larger budget never alters a settled answer", nor the table, nor scratch
-  pub larger_budget_same : (more : ℕ) → budget ≤ more → Settlement sizes t s more (answer.Settled r e) t' s'
+  pub larger_budget_same : (more : ℕ) → budget ≤ more → Settlement sizes t s more (settled_after r e) t' s'
   unfolding reached
   larger_budget_same more h =
       let (l, q, v) = settled-values in
       let m : min (steps (length sizes) (rel_of sizes t)) budget ≡ min (steps (length sizes) (rel_of sizes t)) more = omega arith in
       record {
-        says = p.says ∙ (good-says settled-good budget ∙ (says-settled (length sizes) (rel_of sizes t) budget l ∙ sym (good-says settled-good more ∙ says-settled (length sizes) (rel_of sizes t) more (omega arith))));
+        says = p.says
+            ∙ (good-says settled-good budget ∙ (says-settled (length sizes) (rel_of sizes t) budget l
+            ∙ sym (good-says settled-good more ∙ says-settled (length sizes) (rel_of sizes t) more (omega arith))));
         table = p.table ∙ (good-table settled-good budget ∙ (rw m (sym (good-table settled-good more))));
         scratch = p.scratch ∙ (good-scratch settled-good budget ∙ (rw m (sym (good-scratch settled-good more))));
       }
 
   -- settled once more, it needs no round, and stays
-  pub settled_again : (u : List ℕ) (more : ℕ) → length u ≡ length s → Settlement sizes t' u more (answer.Settled 0 e) t' t'
+  pub settled_again : (u : List ℕ) (more : ℕ) → length u ≡ length s → Settlement sizes t' u more (settled_after 0 e) t' t'
   settled_again u more h =
       let g : GoodLent sizes t' u = record { good = result_is_good p refl; other = h ∙ settled-good.other } in
       let f : Fit t' = rw (p.table ∙ good-table settled-good budget) (words_fit_lem (length sizes) (reached (length sizes) (rel_of sizes t) budget)) in
@@ -222,7 +228,7 @@ module _ {sizes t s : List ℕ} {budget r : ℕ} {e : Bool} {t' s' : List ℕ} (
 
 -- 4. Unfinished: "Otherwise the answer is unfinished and the table holds the state after exactly the budgeted rounds."
 
-module _ {sizes t s : List ℕ} {budget : ℕ} {t' s' : List ℕ} (p : Settlement sizes t s budget answer.Unfinished t' s') where
+module _ {sizes t s : List ℕ} {budget : ℕ} {t' s' : List ℕ} (p : Settlement sizes t s budget unfinished t' s') where
   unfinished-good : GoodLent sizes t s
   unfinished-good = answered_is_good p refl
 
@@ -252,21 +258,22 @@ module _ {sizes t s : List ℕ} {budget : ℕ} {t' s' : List ℕ} (p : Settlemen
 
 -- 5. A good table with scratch of its length is answered, and settled where the budget is 123,392 or more
 
-pub good_is_not_refused : {sizes t s : List ℕ} {budget : ℕ} {q : Refusal} {t' s' : List ℕ} → GoodLent sizes t s → Settlement sizes t s budget (answer.Refused q) t' s' → ⊥
+pub good_is_not_refused : {sizes t s : List ℕ} {budget : ℕ} {q : Refusal} {t' s' : List ℕ} → GoodLent sizes t s → Settlement sizes t s budget (Err q) t' s' → ⊥
 good_is_not_refused {sizes} {t} {s} {budget} {q} g p = elim (lt_or_ge budget (steps (length sizes) (rel_of sizes t))) [
   | inl l ↦ no_result q (p.says ∙ (good-says g budget ∙ says-unfinished (length sizes) (rel_of sizes t) budget l))
   | inr l ↦ no_result q (p.says ∙ (good-says g budget ∙ says-settled (length sizes) (rel_of sizes t) budget l))
 ]
 
-pub large_budget_settles : {sizes t s : List ℕ} {budget : ℕ} {x : Settling} {t' s' : List ℕ} → GoodLent sizes t s → rounds_most ≤ budget → Settlement sizes t s budget x t' s' → (r : ℕ) × (e : Bool) × (x ≡ answer.Settled r e)
-large_budget_settles {x = answer.Settled r e} g h p = (r, e, refl)
-large_budget_settles {x = answer.Unfinished} g h p = absurd (omega (arith, unfinished_budget_is_small p))
-large_budget_settles {x = answer.Refused q} g h p = absurd (good_is_not_refused g p)
+pub large_budget_settles : {sizes t s : List ℕ} {budget : ℕ} {x : Settling} {t' s' : List ℕ} → GoodLent sizes t s → rounds_most ≤ budget
+    → Settlement sizes t s budget x t' s' → (r : ℕ) × (e : Bool) × (x ≡ settled_after r e)
+large_budget_settles {x = Ok (Some x)} g h p = (x.rounds, x.empty, refl)
+large_budget_settles {x = Ok None} g h p = absurd (omega (arith, unfinished_budget_is_small p))
+large_budget_settles {x = Err q} g h p = absurd (good_is_not_refused g p)
 
 -- 6. The first row that a round would change: one answer, and none exactly of a settled table
 
-pub first_changed_is_one : (n : ℕ) (R : Rel) (x y : Changed) → said_changed x ≡ after_settled n R (says 0 []) → said_changed y ≡ after_settled n R (says 0 []) → x ≡ y
+pub first_changed_is_one : (n : ℕ) (R : Rel) (x y : Option Row) → said_changed x ≡ after_settled n R (says 0 []) → said_changed y ≡ after_settled n R (says 0 []) → x ≡ y
 first_changed_is_one n R x y p q = changed_determined x y (p ∙ sym q)
 
-pub nowhere_changed_iff_settled : (n : ℕ) (R : Rel) → Narrow n R → (x : Changed) → said_changed x ≡ after_settled n R (says 0 []) → (x ≡ Nowhere) ↔ Settled n R
-nowhere_changed_iff_settled n R w x p = (told-settled n R w p, λ s. changed_determined x Nowhere (p ∙ (check-settled n R w).passes s (says 0 [])))
+pub nowhere_changed_iff_settled : (n : ℕ) (R : Rel) → Narrow n R → (x : Option Row) → said_changed x ≡ after_settled n R (says 0 []) → (x ≡ None) ↔ Settled n R
+nowhere_changed_iff_settled n R w x p = (told-settled n R w p, λ s. changed_determined x None (p ∙ (check-settled n R w).passes s (says 0 [])))

@@ -7,21 +7,20 @@ ghost use Rattle.table.specs.Layout.{Sized, rel};
 ghost use Rattle.settle.specs.Settle.{Settlement};
 
 use refusal::Refusal;
-use running::{Stop, run};
-use table::{READINGS_MOST, Shaped, cell, shape};
+use running::run;
+use table::{cell, shape};
 
 mod changes;
 mod round;
 mod running;
 
-pub use changes::{Changed, first_changed};
+pub use changes::first_changed;
 
-// What settling answers: the rounds it took and whether the table is empty, or that the budget is too small, or a refusal.
-#[derive(Drop)]
-pub enum Settling {
-    Settled(u64, bool),
-    Unfinished,
-    Refused(Refusal),
+// What settling comes to: the rounds it took and whether the table is empty.
+#[derive(Clone, Copy)]
+pub struct Settled {
+    pub rounds: u64,
+    pub empty: bool,
 }
 
 // No bit stands in cell (0, 0). In a settled table that is to say: in no cell.
@@ -29,32 +28,26 @@ fn nothing_left(table: &[u32], n: usize) -> bool
     requires { Sized n table.now × (0 < n) }
     ensures { result ≡ not (holds (rel n table.now) 0 0) }
 {
-    let rows = cell(table, n, 0, 0);
-    let mut a = 0;
-    while a < READINGS_MOST {
-        if rows[a] != 0 {
-            return false;
-        }
-        a += 1;
-    }
-    true
+    cell(table, n, 0, 0).iter().all(|w| *w == 0)
 }
 
-// Settles the table within a budget of rounds, with scratch of the same length.
-pub fn settle(sizes: &[u8], table: &mut [u32], scratch: &mut [u32], budget: u64) -> Settling
+// Settles the table within a budget of rounds, with scratch of the same length; None where the budget is spent before that.
+pub fn settle(
+    sizes: &[u8],
+    table: &mut [u32],
+    scratch: &mut [u32],
+    budget: u64,
+) -> Result<Option<Settled>, Refusal>
     ensures { Settlement sizes.now table.old scratch.old budget result table.new scratch.new }
 {
-    let shaped = shape(sizes, table);
-    if let Shaped::Refused(q) = shaped {
-        return Settling::Refused(q);
-    }
+    shape(sizes, table)?;
     if scratch.len() != table.len() {
-        return Settling::Refused(Refusal::Lent);
+        return Err(Refusal::Lent);
     }
     let n = sizes.len();
-    let stop = run(table, scratch, n, budget);
-    match stop {
-        Stop::Stable(r) => Settling::Settled(r, nothing_left(table, n)),
-        Stop::Spent => Settling::Unfinished,
-    }
+    let settled = run(table, scratch, n, budget).map(|rounds| Settled {
+        rounds,
+        empty: nothing_left(table, n),
+    });
+    Ok(settled)
 }

@@ -6,7 +6,10 @@ use native.Mathlib.Numerals.{add-one}
 use native.Mathlib.Omega.{arith}
 use lib.ListN.{length, get_or, set, take, drop, replicate, length-append, length-set}
 use lib.Seq.{length-take-le, take-suc-set, take_at, take-append-add, drop-append-add}
-use borrow.Rule.Slice.PartMut.{mid_of, put_mid, same_len_mid, mid_len}
+use borrow.Rule.Slice.PartMut.{put_mid, same_len_mid, mid_len}
+use Rattle.std.specs.Prelude.{Result, Ok, Err}
+use Rattle.std.specs.Result.{IsOk}
+use Rattle.refusal.specs.declared.Refusal.{Refusal}
 use Rattle.theory.specs.Limits.{readings_most}
 use Rattle.calendar.specs.DateText.{date_length, short_length, separator}
 use Rattle.calendar.specs.DateAnswers.{padded}
@@ -14,12 +17,10 @@ use Rattle.scan.specs.Sheet.{Record, field, fields_of, any_pair, Told, told, Ste
 use Rattle.scan.specs.RecordLaws.{fields_field, late_field}
 use Rattle.scan.specs.SheetLaws.{adds_more, gap_stands, strike-stands, end_no_more, step_more, scan_on, scan_on_lem}
 use Rattle.scan.specs.WholeLaws.{GoodFields, whole-good, FieldNext, field_next, field_next_lem}
-use Rattle.scan.specs.Judging.{adds, gist, gist_of, field_by, ReadsField}
+use Rattle.scan.specs.Judging.{adds, gist, gist_of, field_by, verdict_on, days_read, ReadsField}
 use Rattle.scan.specs.declared.mark.Mark.{Mark}
 use Rattle.scan.specs.declared.mark.Mark.TheVariants.{Date, Short, Days, Gap, Strike, End, Unknown}
 use Rattle.scan.specs.declared.field.FieldRead.{FieldRead}
-use Rattle.scan.specs.declared.step.Verdict.{Verdict}
-use Rattle.scan.specs.declared.step.Verdict.TheVariants.{Field, Rule, Stop}
 use Rattle.sheet.specs.Opening.{days_of}
 use Rattle.sheet.specs.BufferLaws.{Few, few_rest, good_few, padded-long}
 use Rattle.sheet.specs.Writing.{days_at, records, fields, Judged, UpTo, FieldsTo}
@@ -72,10 +73,15 @@ by_mark_lem : (t : Told) (s : List ℕ) (at : ℕ) (d : List ℕ) (n : ℕ) (m :
 by_mark_lem t s at d n Date e = (adds_more t at (date_at separator date_length s at) (field d) n e).2
 by_mark_lem t s at d n Short e = (adds_more t at (date_at separator short_length s at) (field d) n e).2
 by_mark_lem t s at d n Days e = (adds_more t at (listAt s at) (field d) n e).2
-by_mark_lem t s at d n Gap e = absurd (let p = (gap_stands t.sizes s at (field d) n e).is in let z : ◌≡◌ {A = ℕ} 0 1 = cc p in omega arith)
-by_mark_lem t s at d n Strike e = absurd (let p = (strike-stands t.sizes s at (field d) n e).is in let z : ◌≡◌ {A = ℕ} 0 1 = cc p in omega arith)
+by_mark_lem t s at d n Gap e = absurd (let p = (gap_stands t.sizes s at (field d) n e).is in cc p)
+by_mark_lem t s at d n Strike e = absurd (let p = (strike-stands t.sizes s at (field d) n e).is in cc p)
 by_mark_lem t s at d n End e = absurd (end_no_more t.sizes s at (field d) n e)
-by_mark_lem t s at d n Unknown e = absurd (let z : ◌≡◌ {A = ℕ} 0 1 = cc e in omega arith)
+by_mark_lem t s at d n Unknown e = absurd (cc e)
+
+-- what adds a field is no refusal
+not_refused : (r : Result FieldRead Refusal) {k n : ℕ} → gist_of (verdict_on r) ≡ adds k n → IsOk r
+not_refused (Ok x) e = refl
+not_refused (Err q) e = absurd (cc e)
 
 module _ {sheet sizes days : List ℕ} {i at : ℕ} (f : FieldsTo sheet sizes days i at) (h : i < length sizes) where
   next : Next sheet f.before at
@@ -84,34 +90,33 @@ module _ {sheet sizes days : List ℕ} {i at : ℕ} (f : FieldsTo sheet sizes da
   pub field_there : at + 2 ≤ length sheet
   field_there = (step_more separator (told f.before) sheet at (field next.days) next.next next.step).0
 
-  -- the next 32 days are lent on by themselves
-  pub part_room : length (mid_of (i * readings_most) (i * readings_most + readings_most - i * readings_most) days) ≡ readings_most
-  part_room = mid_len (i * readings_most) (i * readings_most + readings_most) days (omega (arith, f.all_days)) ∙ omega arith
-
   here : {m : Mark} → m ≡ mark_of (number_at sheet at) → field_by separator m sheet at ≡ more (field next.days) next.next
   here e = ap (λ (x : Mark). field_by separator x sheet at) e ∙ by_mark_lem (told f.before) sheet at next.days next.next (mark_of (number_at sheet at)) (step_more separator (told f.before) sheet at (field next.days) next.next next.step).1
 
-  module _ {m : Mark} (em : m ≡ mark_of (number_at sheet at)) {r : FieldRead} (reads : ReadsField (field_by separator m sheet at) r) where
-    judged : gist_of r.verdict ≡ adds (length next.days) next.next
+  module _ {m : Mark} (em : m ≡ mark_of (number_at sheet at)) {r : Result FieldRead Refusal} (reads : ReadsField (field_by separator m sheet at) r) where
+    judged : gist_of (verdict_on r) ≡ adds (length next.days) next.next
     judged = reads.judges ∙ ap gist (here em)
 
-    listed : r.days ≡ padded readings_most next.days
-    listed = reads.days ∙ ap (λ (s : Step). padded readings_most (Rattle.scan.specs.Judging.days_in s)) (here em)
+    pub field_read : IsOk r
+    field_read = not_refused r judged
 
-    few : length next.days ≤ readings_most
-    few = (Rattle.scan.specs.WholeLaws.step_good separator (told f.before) sheet at next.days next.next next.step).0.few
+    module _ {read : FieldRead} (v : r ≡ Ok read) where
+      told-that : adds read.size read.next ≡ adds (length next.days) next.next
+      told-that = sym (ap (λ (x : Result FieldRead Refusal). gist_of (verdict_on x)) v) ∙ judged
 
-    pub days-long : length r.days ≡ readings_most
-    days-long = ap length listed ∙ padded-long readings_most next.days few
+      listed : read.days ≡ padded readings_most next.days
+      listed = sym (ap days_read v) ∙ reads.days ∙ ap (λ (s : Step). padded readings_most (Rattle.scan.specs.Judging.days_in s)) (here em)
 
-    module _ {size to : ℕ} (v : r.verdict ≡ Field size to) where
-      told-that : adds size to ≡ adds (length next.days) next.next
-      told-that = sym (ap gist_of v) ∙ judged
+      few : length next.days ≤ readings_most
+      few = (Rattle.scan.specs.WholeLaws.step_good separator (told f.before) sheet at next.days next.next next.step).0.few
 
-      size_is : size ≡ length next.days
+      pub days-long : length read.days ≡ readings_most
+      days-long = ap length listed ∙ padded-long readings_most next.days few
+
+      size_is : read.size ≡ length next.days
       size_is = cc told-that
 
-      to_is : to ≡ next.next
+      to_is : read.next ≡ next.next
       to_is = cc told-that
 
       end : i * readings_most + readings_most ≤ length days
@@ -120,16 +125,16 @@ module _ {sheet sizes days : List ℕ} {i at : ℕ} (f : FieldsTo sheet sizes da
       first : length (take (i * readings_most) days) ≡ i * readings_most
       first = length-take-le (i * readings_most) days (omega (arith, end))
 
-      days-on : take ((i + 1) * readings_most) (put_mid (i * readings_most) (i * readings_most + readings_most - i * readings_most) days r.days) ≡ days_of (fields_of f.before) ++ padded readings_most next.days
+      days-on : take ((i + 1) * readings_most) (put_mid (i * readings_most) (i * readings_most + readings_most - i * readings_most) days read.days) ≡ days_of (fields_of f.before) ++ padded readings_most next.days
       days-on =
-          ap (λ (k : ℕ). take k (put_mid (i * readings_most) (i * readings_most + readings_most - i * readings_most) days r.days)) {x = (i + 1) * readings_most} {y = length (take (i * readings_most) days) + readings_most} (omega (arith, first))
-          ∙ take-append-add (take (i * readings_most) days) (r.days ++ drop (i * readings_most + readings_most - i * readings_most) (drop (i * readings_most) days)) readings_most
-          ∙ ap₂ ◌++◌ f.holds_days (take_at r.days _ readings_most days-long ∙ listed)
+          ap (λ (k : ℕ). take k (put_mid (i * readings_most) (i * readings_most + readings_most - i * readings_most) days read.days)) {x = (i + 1) * readings_most} {y = length (take (i * readings_most) days) + readings_most} (omega (arith, first))
+          ∙ take-append-add (take (i * readings_most) days) (read.days ++ drop (i * readings_most + readings_most - i * readings_most) (drop (i * readings_most) days)) readings_most
+          ∙ ap₂ ◌++◌ f.holds_days (take_at read.days _ readings_most days-long ∙ listed)
 
-      sizes-on : take (i + 1) (set sizes i size) ≡ map length (fields_of f.before) ++ length next.days ∷ []
-      sizes-on = ap (λ (k : ℕ). take k (set sizes i size)) (add-one i) ∙ take-suc-set sizes i size h ∙ ap₂ (λ (l : List ℕ) (k : ℕ). l ++ k ∷ []) f.holds_sizes size_is
+      sizes-on : take (i + 1) (set sizes i read.size) ≡ map length (fields_of f.before) ++ length next.days ∷ []
+      sizes-on = ap (λ (k : ℕ). take k (set sizes i read.size)) (add-one i) ∙ take-suc-set sizes i read.size h ∙ ap₂ (λ (l : List ℕ) (k : ℕ). l ++ k ∷ []) f.holds_sizes size_is
 
-      written : FieldsTo sheet (set sizes i size) (put_mid (i * readings_most) (i * readings_most + readings_most - i * readings_most) days r.days) (i + 1) to
+      written : FieldsTo sheet (set sizes i read.size) (put_mid (i * readings_most) (i * readings_most + readings_most - i * readings_most) days read.days) (i + 1) read.next
       written = record {
         before = f.before ++ field next.days ∷ [];
         up_to = record { whole = f.up_to.whole; on = ap (scan_on separator sheet (f.before ++ field next.days ∷ [])) to_is ∙ next.on };
@@ -137,13 +142,13 @@ module _ {sheet sizes days : List ℕ} {i at : ℕ} (f : FieldsTo sheet sizes da
         count = ap length (fields_field f.before next.days) ∙ length-append (fields_of f.before) (next.days ∷ []) ∙ ap (λ (k : ℕ). k + 1) f.count;
         holds_sizes = sizes-on ∙ sym (ap (map length) (fields_field f.before next.days) ∙ sizes_more (fields_of f.before) next.days);
         holds_days = days-on ∙ sym (ap days_of (fields_field f.before next.days) ∙ days_more (fields_of f.before) next.days);
-        all_sizes = length-set sizes i size ∙ f.all_sizes;
-        all_days = same_len_mid (i * readings_most) (i * readings_most + readings_most - i * readings_most) days r.days (days-long ∙ sym (mid_len (i * readings_most) (i * readings_most + readings_most) days end ∙ omega arith)) ∙ f.all_days ∙ ap (λ (k : ℕ). k * readings_most) (sym (length-set sizes i size));
+        all_sizes = length-set sizes i read.size ∙ f.all_sizes;
+        all_days = same_len_mid (i * readings_most) (i * readings_most + readings_most - i * readings_most) days read.days (days-long ∙ sym (mid_len (i * readings_most) (i * readings_most + readings_most) days end ∙ omega arith)) ∙ f.all_days ∙ ap (λ (k : ℕ). k * readings_most) (sym (length-set sizes i read.size));
       }
 
       -- the 32 days as they are copied
-      pub field_written : {l : List ℕ} → l ≡ r.days → FieldsTo sheet (set sizes i size) (put_mid (i * readings_most) (i * readings_most + readings_most - i * readings_most) days l) (i + 1) to
-      field_written e = subst (λ (x : List ℕ). FieldsTo sheet (set sizes i size) (put_mid (i * readings_most) (i * readings_most + readings_most - i * readings_most) days x) (i + 1) to) (sym e) written
+      pub field_written : {l : List ℕ} → l ≡ read.days → FieldsTo sheet (set sizes i read.size) (put_mid (i * readings_most) (i * readings_most + readings_most - i * readings_most) days l) (i + 1) read.next
+      field_written e = subst (λ (x : List ℕ). FieldsTo sheet (set sizes i read.size) (put_mid (i * readings_most) (i * readings_most + readings_most - i * readings_most) days x) (i + 1) read.next) (sym e) written
 
 -- no field is written yet
 pub fields_none : {sheet sizes days : List ℕ} → Judged sheet (length sizes) → length days ≡ length sizes * readings_most → FieldsTo sheet sizes days 0 0
@@ -158,16 +163,3 @@ fields_none j e = record {
   all_sizes = sym j.count;
   all_days = e;
 }
-
--- where a field stands, the verdict is a field
-only_field : (v : Verdict) (k n : ℕ) → gist_of v ≡ adds k n → ((s t : ℕ) → v ≡ Field s t → ⊥) → ⊥
-only_field (Field s t) k n e o = o s t refl
-only_field (Rule t) k n e o = let z : ◌≡◌ {A = ℕ} 0 1 = cc e in omega arith
-only_field Verdict.End k n e o = let z : ◌≡◌ {A = ℕ} 0 1 = cc e in omega arith
-only_field (Stop q) k n e o = let z : ◌≡◌ {A = ℕ} 0 1 = cc e in omega arith
-
-pub not_else : {sheet sizes days : List ℕ} {i at : ℕ} (f : FieldsTo sheet sizes days i at) (h : i < length sizes) {m : Mark} → m ≡ mark_of (number_at sheet at) → {r : FieldRead} → ReadsField (field_by separator m sheet at) r → ((s t : ℕ) → r.verdict ≡ Field s t → ⊥) → ⊥
-not_else f h em {r} reads o = only_field r.verdict _ _ (judged f h em reads) o
-
-pub fields-all : {sheet sizes days : List ℕ} {i at : ℕ} → FieldsTo sheet sizes days i at → (n : ℕ) → i ≤ n → length sizes ≡ n → length sizes ≤ i → FieldsTo sheet sizes days n at
-fields-all {sheet} {sizes} {days} {i} {at} f n h e g = subst (λ (k : ℕ). FieldsTo sheet sizes days k at) {x = i} {y = n} (omega arith) f

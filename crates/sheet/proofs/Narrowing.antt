@@ -1,5 +1,5 @@
 -- Days in order are parted by a bound at one place, and the places move up from row to row.
-use mathlib.Core.Path.{◌≡◌, refl, sym, ap, ◌∙◌}
+use mathlib.Core.Path.{◌≡◌, sym, ap, ◌∙◌}
 use mathlib.Core.Logic.{◌⊎◌, inl, inr}
 use mathlib.Core.Bool.{Bool, ◌&&◌}
 use mathlib.Core.List.{List}
@@ -22,13 +22,6 @@ use Rattle.sheet.specs.Writing.{Below, Parts, TwoFields, between, narrowed_row, 
 
 -- the place that parts
 
-pub below_on : {days : List ℕ} {k bound : ℕ} → Below days k bound → k < length days → get_or days k 0 + 32768 < bound → Below days (k + 1) bound
-below_on {days} {k} {bound} i h l = record {
-  in_order = i.in_order;
-  within = omega arith;
-  below = below_more (λ b. get_or days b 0 + 32768 < bound) k i.below l;
-}
-
 -- a later day is no smaller
 later : (days : List ℕ) → T (ascending days) → (a b : ℕ) → a ≤ b → b < length days → get_or days a 0 ≤ get_or days b 0
 later days r a b h l = go (eq-or-lt_of_le h)
@@ -44,9 +37,6 @@ parts_here {days} {k} {bound} i h g = record {
   above = λ b m l. omega (arith, later days i.in_order k b m l);
 }
 
-pub parts_end : {days : List ℕ} {k bound : ℕ} → Below days k bound → length days ≤ k → Parts days bound k
-parts_end i h = record { within = i.within; below = i.below; above = λ b m l. absurd (omega arith) }
-
 -- the rows before a are narrowed, and from and to part the days for the rows from a on
 pub record Narrows (first second : List ℕ) (lo hi : ℕ) (cell₀ cell : List ℕ) (a from to : ℕ) : Type 0 where
   pub two : TwoFields first second
@@ -55,16 +45,6 @@ pub record Narrows (first second : List ℕ) (lo hi : ℕ) (cell₀ cell : List 
   pub left : (p : ℕ) → a ≤ p → get_or cell p 0 ≡ get_or cell₀ p 0
   pub low : (c : ℕ) → a ≤ c → c < length first → Below second from (get_or first c 0 + lo)
   pub high : (c : ℕ) → a ≤ c → c < length first → Below second to (get_or first c 0 + hi + 1)
-
-pub narrows_start : {first second : List ℕ} → TwoFields first second → (lo hi : ℕ) (cell : List ℕ) → Narrows first second lo hi cell cell 0 0 0
-narrows_start {first} {second} t lo hi cell = record {
-  two = t;
-  long = refl;
-  done = λ p h. absurd (omega arith);
-  left = λ p h. refl;
-  low = λ c h l. record { in_order = t.second_rise; within = omega arith; below = λ b m. absurd (omega arith) };
-  high = λ c h l. record { in_order = t.second_rise; within = omega arith; below = λ b m. absurd (omega arith) };
-}
 
 -- what lies between the two places is what the interval admits
 admitted : (second : List ℕ) (d lo hi from to b : ℕ) → Parts second (d + lo) from → Parts second (d + hi + 1) to → (leb from b && ltb b to) ≡ (ltb b (length second) && admits lo hi d (get_or second b 0))

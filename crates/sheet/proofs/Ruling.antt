@@ -290,7 +290,7 @@ module _ {sheet sizes days t : List ℕ} {at : ℕ} (r : RulesTo sheet sizes day
       no_more Gap g s q k e v = g refl
       no_more Strike g s q k e v = s refl
       no_more End g s q k e v = end_no_more (told r.before).sizes sheet at q k e
-      no_more Unknown g s q k e v = let z : ◌≡◌ {A = ℕ} 0 1 = cc e in omega arith
+      no_more Unknown g s q k e v = cc e
 
       go : Going separator sheet r.before at (records sheet) → r.before ≡ records sheet
       go (goes q k e v) = absurd (no_more m g s q k (subst (λ (x : Mark). by_mark separator x (told r.before) sheet at ≡ more q k) (sym em) (step_more separator (told r.before) sheet at q k e).1) v)

@@ -76,8 +76,8 @@ module _ (rows columns mask : ℕ) (e : mask ≡ pack 32 (λ b. ltb b columns)) 
 
 -- a cell of everything
 
-pub cell_own : (rows columns : ℕ) {mask : ℕ} {same : Bool} {s : List ℕ} → mask ≡ pack 32 (λ b. ltb b columns) → same ≡ true → s ≡ tabulate readings_most (own_row rows mask) → s ≡ tabulate readings_most (full_row rows columns same)
-cell_own rows columns {mask} e q f = f ∙ tabulate_same readings_most (λ a. own-full rows columns mask e a) ∙ ap (λ (p : Bool). tabulate readings_most (full_row rows columns p)) (sym q)
+pub cell_own : (rows columns : ℕ) {mask : ℕ} {s : List ℕ} → mask ≡ pack 32 (λ b. ltb b columns) → s ≡ tabulate readings_most (own_row rows mask) → s ≡ tabulate readings_most (full_row rows columns true)
+cell_own rows columns {mask} e f = f ∙ tabulate_same readings_most (λ a. own-full rows columns mask e a)
 
-pub cell_other : (rows columns : ℕ) {mask : ℕ} {same : Bool} {s : List ℕ} → mask ≡ pack 32 (λ b. ltb b columns) → same ≡ false → s ≡ tabulate readings_most (other_row rows mask) → s ≡ tabulate readings_most (full_row rows columns same)
-cell_other rows columns {mask} e q f = f ∙ tabulate_same readings_most (λ a. other-full rows columns mask e a) ∙ ap (λ (p : Bool). tabulate readings_most (full_row rows columns p)) (sym q)
+pub cell_other : (rows columns : ℕ) {mask : ℕ} {s : List ℕ} → mask ≡ pack 32 (λ b. ltb b columns) → s ≡ tabulate readings_most (other_row rows mask) → s ≡ tabulate readings_most (full_row rows columns false)
+cell_other rows columns {mask} e f = f ∙ tabulate_same readings_most (λ a. other-full rows columns mask e a)

@@ -1,13 +1,13 @@
 -- The table that a sheet opens, and what reading a sheet leaves in the lent buffers (01, "Dates and sheets").
-use Rattle.std.specs.Prelude.{◌≡◌, Bool, cond, not, ◌&&◌, ◌||◌, List, [], ◌∷◌, ◌++◌, map, ℕ, ◌+◌, ◌*◌, leb, ltb, eqb, length, get_or, drop}
+use Rattle.std.specs.Prelude.{◌≡◌, Bool, cond, not, ◌&&◌, ◌||◌, List, [], ◌∷◌, ◌++◌, map, ℕ, ◌+◌, ◌*◌, leb, ltb, eqb, length, get_or, drop, Result}
 use Rattle.refusal.specs.Said.{Said, says}
+use Rattle.refusal.specs.declared.Refusal.{Refusal}
 use Rattle.theory.specs.Limits.{fields_most, readings_most}
 use Rattle.theory.specs.Relation.{Rel}
 use Rattle.theory.specs.Strike.{strike as without, nothing, either}
 use Rattle.calendar.specs.DateAnswers.{padded}
 use Rattle.table.specs.Layout.{table_length, words, size_of}
 use Rattle.table.specs.Strike.{pair_and_mirror}
-use Rattle.scan.specs.declared.Opened.{Opened}
 use Rattle.scan.specs.Answer.{said_opened}
 use Rattle.scan.specs.Sheet.{Record, field, gap, strike, fields_of, Scanned, whole, faulty, scan}
 
@@ -107,7 +107,7 @@ reading sep sheet sizes days table =
     (refuses (says 13 []) sizes days table)
 
 -- reading ends as it should: the answer, and each lent buffer as it is left
-pub record Reads (o : Outcome) (r : Opened) (sizes days table : List ℕ) : Type 0 where
+pub record Reads (o : Outcome) (r : Result ℕ Refusal) (sizes days table : List ℕ) : Type 0 where
   pub answers : said_opened r ≡ o.said
   pub leaves_sizes : sizes ≡ o.sizes
   pub leaves_days : days ≡ o.days

@@ -1,5 +1,5 @@
 -- What an answer of reading tells: which checks passed, and what the lent buffers hold.
-use Rattle.std.specs.Prelude.{◌≡◌, refl, ◌↔◌, ◌⊎◌, Bool, true, false, ◌&&◌, List, [], ◌∷◌, ◌++◌, map, ℕ, zero, suc, ◌≤◌, ◌<◌, get_or, take}
+use Rattle.std.specs.Prelude.{◌≡◌, refl, ◌↔◌, ◌⊎◌, Bool, true, false, ◌&&◌, List, [], ◌∷◌, ◌++◌, map, ℕ, zero, suc, ◌≤◌, ◌<◌, get_or, take, Ok}
 use Rattle.std.proofs.Common.{sym, ap, ◌∙◌, true≢false, arith}
 use Rattle.std.proofs.Math.Logic.{inl, inr}
 use Rattle.std.proofs.Math.Dec.{leb}
@@ -11,7 +11,6 @@ use Rattle.theory.specs.BoundLaws.{lt_or_ge}
 use Rattle.refusal.specs.Said.{Said, says}
 use Rattle.table.specs.Layout.{table_length, words}
 use Rattle.table.specs.LayoutLaws.{length-words}
-use Rattle.scan.specs.declared.Opened.TheVariants.{Fields}
 use Rattle.scan.specs.Answer.{scan_says}
 use Rattle.scan.specs.Sheet.{Record, told, Step, more, done, stop, step_at, Scanned, whole, faulty, onward, scan_from, scan}
 use Rattle.scan.specs.SheetLaws.{step_number}
@@ -29,7 +28,7 @@ faulty_from sep (suc k) s rs at q e = go (step_at sep (told rs) s at) refl e (λ
   where
     go : (x : Step) → step_at sep (told rs) s at ≡ x → onward rs (λ r n. scan_from sep k s (rs ++ r ∷ []) n) x ≡ faulty q → ((r : Record) (n : ℕ) → scan_from sep k s (rs ++ r ∷ []) n ≡ faulty q → (q.state ≡ 1) ⊎ (15 ≤ q.state)) → (q.state ≡ 1) ⊎ (15 ≤ q.state)
     go (more r n) d f g = g r n f
-    go done d f g = absurd (let z : ◌≡◌ {A = ℕ} 0 1 = cc f in omega arith)
+    go done d f g = absurd (cc f)
     go (stop p) d f g = let h : p ≡ q = cc f in rw (← h) (step_number sep (told rs) s at p d)
 
 pub faulty_number : (sep : ℕ → Bool) (s : List ℕ) (q : Said) → scan sep s ≡ faulty q → (q.state ≡ 1) ⊎ (15 ≤ q.state)
@@ -163,12 +162,12 @@ module _ (sep : ℕ → Bool) (sheet sizes days table : List ℕ) where
       let e : records_of sep sheet ≡ rs = ap records_in w.scanned in
       record { whole = rw e w; count = rw e (ap (λ (s : Said). get_or s.values 0 0) d) }
 
-  module _ {n : ℕ} {s d t : List ℕ} (r : Reads (reading sep sheet sizes days table) (Fields n) s d t) where
+  module _ {n : ℕ} {s d t : List ℕ} (r : Reads (reading sep sheet sizes days table) (Ok n) s d t) where
     pub reads_opened : OpenedAs n
     reads_opened = ends-opened (reading sep sheet sizes days table) reading_ends n r.answers
 
     -- and what it leaves
-    pub reads_leaves : Reads (opens (records_of sep sheet) sizes days table) (Fields n) s d t
+    pub reads_leaves : Reads (opens (records_of sep sheet) sizes days table) (Ok n) s d t
     reads_leaves = rw (reading-whole (records_of sep sheet) reads_opened.whole) at r
 
     pub opened-sizes : take n s ≡ map length (fields_in sep sheet)

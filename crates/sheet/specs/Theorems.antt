@@ -1,5 +1,5 @@
 -- The theorems of reading a sheet, each beside the sentence of 01 that it carries.
-use Rattle.std.specs.Prelude.{◌≡◌, ◌↔◌, Bool, ℕ, ◌+◌, ◌*◌, ◌≤◌, ◌<◌, length, take}
+use Rattle.std.specs.Prelude.{◌≡◌, ◌↔◌, Bool, ℕ, ◌+◌, ◌*◌, ◌≤◌, ◌<◌, length, take, Result, Ok, Err}
 use Rattle.std.proofs.Common.{sym, ap, ◌∙◌, mul-le-mul, arith, leb→le}
 use mathlib.Core.List.{List, [], map}
 use Rattle.std.proofs.Math.Dec.{leb}
@@ -18,8 +18,6 @@ use Rattle.table.specs.Layout.{table_length, rel, words}
 use Rattle.table.specs.LayoutLaws.{length-words}
 use Rattle.table.specs.Shape.{after_shape, GoodTable}
 use Rattle.table.specs.Theorems.{after_good_shape}
-use Rattle.scan.specs.declared.Opened.{Opened}
-use Rattle.scan.specs.declared.Opened.TheVariants.{Fields, Refused}
 use Rattle.scan.specs.Answer.{said_opened, scan_says}
 use Rattle.scan.specs.AnswerLaws.{opened-determined}
 use Rattle.scan.specs.Sheet.{Record, fields_of, early, scan, whole}
@@ -31,7 +29,7 @@ use Rattle.sheet.specs.BufferLaws.{over_new, over_old, over_length, good_few, le
 use Rattle.sheet.specs.ReadingLaws.{reading_ends, ends_13, ends_14, ends_scanned, ends_refused, reads_opened, reads_leaves, opened-sizes, opened-table}
 
 -- "that two results satisfying the statement coincide"
-pub reading_is_one : (o : Outcome) (x y : Opened) (s d t s' d' t' : List ℕ) → Reads o x s d t → Reads o y s' d' t' → (x ≡ y) × (s ≡ s') × (d ≡ d') × (t ≡ t')
+pub reading_is_one : (o : Outcome) (x y : Result ℕ Refusal) (s d t s' d' t' : List ℕ) → Reads o x s d t → Reads o y s' d' t' → (x ≡ y) × (s ≡ s') × (d ≡ d') × (t ≡ t')
 reading_is_one o x y s d t s' d' t' p q = (
   opened-determined x y (p.answers ∙ sym q.answers),
   p.leaves_sizes ∙ sym q.leaves_sizes,
@@ -40,36 +38,36 @@ reading_is_one o x y s d t s' d' t' p q = (
 )
 
 -- any sheet, whatever the answer
-module _ (sep : ℕ → Bool) (sheet sizes days table : List ℕ) (x : Opened) {s d t : List ℕ} (r : Reads (reading sep sheet sizes days table) x s d t) where
+module _ (sep : ℕ → Bool) (sheet sizes days table : List ℕ) (x : Result ℕ Refusal) {s d t : List ℕ} (r : Reads (reading sep sheet sizes days table) x s d t) where
   -- "Refusals write nothing"
-  pub refusal_writes_nothing : (q : Refusal) → x ≡ Refused q → (s ≡ sizes) × (d ≡ days) × (t ≡ table)
+  pub refusal_writes_nothing : (q : Refusal) → x ≡ Err q → (s ≡ sizes) × (d ≡ days) × (t ≡ table)
   refusal_writes_nothing q e =
       let number = ap (λ (w : Said). w.state) (sym (ap said_opened e) ∙ r.answers) in
       let same = ends_refused sep sheet sizes days table (reading sep sheet sizes days table) (reading_ends sep sheet sizes days table) (omega (arith, number, numbered q)) in
       (r.leaves_sizes ∙ same.0, r.leaves_days ∙ same.1, r.leaves_table ∙ same.2)
 
   -- "sheet reading: a lent buffer too short"
-  pub answers_13_exactly_when_a_buffer_is_short : (x ≡ Refused Short) ↔ TooShort sizes days table
+  pub answers_13_exactly_when_a_buffer_is_short : (x ≡ Err Short) ↔ TooShort sizes days table
   answers_13_exactly_when_a_buffer_is_short =
       let ends = ends_13 sep sheet sizes days table (reading sep sheet sizes days table) (reading_ends sep sheet sizes days table) in
-      (λ e. ends.0 (sym r.answers ∙ ap said_opened e), λ h. opened-determined x (Refused Short) (r.answers ∙ ends.1 h))
+      (λ e. ends.0 (sym r.answers ∙ ap said_opened e), λ h. opened-determined x (Err Short) (r.answers ∙ ends.1 h))
 
   -- "sheet over 4,096 bytes", where the buffers are long enough
-  pub answers_14_exactly_when_the_sheet_is_long : (x ≡ Refused Long) ↔ (LongEnough sizes days table × (sheet_most < length sheet))
+  pub answers_14_exactly_when_the_sheet_is_long : (x ≡ Err Long) ↔ (LongEnough sizes days table × (sheet_most < length sheet))
   answers_14_exactly_when_the_sheet_is_long =
       let ends = ends_14 sep sheet sizes days table (reading sep sheet sizes days table) (reading_ends sep sheet sizes days table) in
-      (λ e. ends.0 (sym r.answers ∙ ap said_opened e), λ h. opened-determined x (Refused Long) (r.answers ∙ ends.1 h))
+      (λ e. ends.0 (sym r.answers ∙ ap said_opened e), λ h. opened-determined x (Err Long) (r.answers ∙ ends.1 h))
 
   -- "13 and 14 come first, then the first faulty record": else the answer is what the scan says
   pub else_answers_what_the_scan_says : LongEnough sizes days table → length sheet ≤ sheet_most → said_opened x ≡ scan_says (scan sep sheet)
   else_answers_what_the_scan_says l h = r.answers ∙ ends_scanned sep sheet sizes days table (reading sep sheet sizes days table) (reading_ends sep sheet sizes days table) l h
 
   -- so a whole sheet is opened
-  pub whole_sheet_is_opened : LongEnough sizes days table → length sheet ≤ sheet_most → (rs : List Record) → scan sep sheet ≡ whole rs → x ≡ Fields (length (fields_of rs))
-  whole_sheet_is_opened l h rs w = opened-determined x (Fields (length (fields_of rs))) (else_answers_what_the_scan_says l h ∙ ap scan_says w)
+  pub whole_sheet_is_opened : LongEnough sizes days table → length sheet ≤ sheet_most → (rs : List Record) → scan sep sheet ≡ whole rs → x ≡ Ok (length (fields_of rs))
+  whole_sheet_is_opened l h rs w = opened-determined x (Ok (length (fields_of rs))) (else_answers_what_the_scan_says l h ∙ ap scan_says w)
 
 -- a sheet that is answered with n fields, and the lent buffers after it
-module _ (sep : ℕ → Bool) (sheet sizes days table : List ℕ) {n : ℕ} {s d t : List ℕ} (r : Reads (reading sep sheet sizes days table) (Fields n) s d t) where
+module _ (sep : ℕ → Bool) (sheet sizes days table : List ℕ) {n : ℕ} {s d t : List ℕ} (r : Reads (reading sep sheet sizes days table) (Ok n) s d t) where
   -- "In a sheet, 13 and 14 come first, then the first faulty record": there is none
   pub opened_is_whole : scan sep sheet ≡ whole (records_of sep sheet)
   opened_is_whole = (reads_opened sep sheet sizes days table r).whole.scanned
@@ -79,8 +77,8 @@ module _ (sep : ℕ → Bool) (sheet sizes days table : List ℕ) {n : ℕ} {s d
   opened_answers_the_number_of_fields = (reads_opened sep sheet sizes days table r).count
 
   -- what is written is of the records that were judged
-  pub opened_answers_what_was_judged : said_opened (Fields n) ≡ scan_says (scan sep sheet)
-  opened_answers_what_was_judged = ap (λ (k : ℕ). said_opened (Fields k)) opened_answers_the_number_of_fields ∙ sym (ap scan_says opened_is_whole)
+  pub opened_answers_what_was_judged : said_opened (Ok n) ≡ scan_says (scan sep sheet)
+  opened_answers_what_was_judged = ap (λ (k : ℕ). said_opened (Ok k)) opened_answers_the_number_of_fields ∙ sym (ap scan_says opened_is_whole)
 
   -- "1 to 16 fields; 1 to 32 readings a field; days 0 to 36,524"
   pub opened_fields_are_some : 1 ≤ length (fields_in sep sheet)

@@ -1,24 +1,24 @@
 // A GP in the words of one cell: of each row only what the interval admits stays.
-ghost use Rattle.std.specs.Prelude.{◌≡◌, ◌≤◌, ◌<◌, ◌+◌, ◌*◌, length};
+ghost use Rattle.std.specs.Prelude.{◌≡◌, ◌≤◌, ◌<◌, ◌+◌, ◌-◌, ◌*◌, length};
 ghost use Rattle.theory.specs.Limits.{readings_most};
 ghost use Rattle.table.specs.Layout.{Sized};
 ghost use Rattle.sheet.specs.Writing.{Below, Parts, TwoFields, between, narrowed, days_at, CellNarrowed};
 
+use scan::record::Interval;
 use table::{READINGS_MOST, cell_start};
 
-// The first place from `from` on whose day, raised, is not below the bound.
+// The first place from `from` on whose day, raised, is not below the bound. Past the last day is a place as well, the end of what is
+// admitted, so this is no Option.
 fn past(days: &[u16], from: usize, bound: u32) -> usize
     requires { Below days.now from bound }
     ensures { Parts days.now bound result }
 {
-    let mut b = from;
-    while b < days.len() {
+    for b in from..days.len() {
         if days[b] as u32 + 32768 >= bound {
             return b;
         }
-        b += 1;
     }
-    b
+    days.len()
 }
 
 // The bits of w from one place up to another.
@@ -37,13 +37,11 @@ fn narrow(cell: &mut [u32], first: &[u16], second: &[u16], lo: u32, hi: u32)
 {
     let mut from = 0;
     let mut to = 0;
-    let mut a = 0;
-    while a < first.len() {
-        let day = first[a] as u32;
+    for (a, day) in first.iter().enumerate() {
+        let day = *day as u32;
         from = past(second, from, day + lo);
         to = past(second, to, day + hi + 1);
         cell[a] = between(cell[a], from, to);
-        a += 1;
     }
 }
 
@@ -56,20 +54,31 @@ pub fn days_of(days: &[u16], i: usize, size: usize) -> &[u16]
     &days[from..from + size]
 }
 
-// Cell (i, j) of a table, lent on by itself.
-pub fn narrow_cell(
-    table: &mut [u32],
-    n: usize,
-    i: usize,
-    j: usize,
-    first: &[u16],
-    second: &[u16],
-    lo: u32,
-    hi: u32,
-)
-    requires { Sized n table.old × (i < n) × (j < n) × TwoFields first.now second.now × (lo ≤ 65536) × (hi ≤ 65536) }
-    ensures { CellNarrowed n table.old i j first.now second.now lo hi table.new }
+// An interval as it is seen from its second field. That lo and hi are raised numbers is asked here and of a cell, since docs/PROMISES.md
+// names `Interval::is_right` of any interval.
+pub fn turned(g: Interval) -> Interval
+    requires { (g.lo ≤ 65536) × (g.hi ≤ 65536) }
+    ensures { result ≡ record { i = g.j; j = g.i; lo = 65536 - g.hi; hi = 65536 - g.lo } }
 {
-    let at = cell_start(n, i, j);
-    narrow(&mut table[at..at + READINGS_MOST], first, second, lo, hi);
+    Interval {
+        i: g.j,
+        j: g.i,
+        lo: 65536 - g.hi,
+        hi: 65536 - g.lo,
+    }
+}
+
+// The cell of an interval's two fields, lent on by itself.
+pub fn narrow_cell(table: &mut [u32], n: usize, g: Interval, first: &[u16], second: &[u16])
+    requires { Sized n table.old × (g.i < n) × (g.j < n) × TwoFields first.now second.now × (g.lo ≤ 65536) × (g.hi ≤ 65536) }
+    ensures { CellNarrowed n table.old g.i g.j first.now second.now g.lo g.hi table.new }
+{
+    let at = cell_start(n, g.i, g.j);
+    narrow(
+        &mut table[at..at + READINGS_MOST],
+        first,
+        second,
+        g.lo,
+        g.hi,
+    );
 }

@@ -14,7 +14,6 @@ ghost use Rattle.sheet.specs.Opening.{Reads, reading};
 ghost use Rattle.sheet.specs.Writing.{Judged, Opens};
 
 use refusal::Refusal;
-pub use scan::Opened;
 use table::{FIELDS_MOST, READINGS_MOST, table_length};
 
 // A longer sheet is refused.
@@ -25,7 +24,8 @@ pub const DAYS_MOST: usize = FIELDS_MOST * READINGS_MOST;
 
 pub const WORDS_MOST: usize = FIELDS_MOST * FIELDS_MOST * READINGS_MOST;
 
-// The write pass over a sheet that was judged: it finds no fault.
+// The write pass over a sheet that was judged: it finds no fault. Sizes, days and table are three buffers, as C lends them, and each
+// pass over them takes as `&mut` what it writes alone: a struct of all three would lend all to each.
 fn write(sheet: &[u8], sizes: &mut [u8], days: &mut [u16], table: &mut [u32])
     requires { Judged sheet.now (length sizes.old) × (length days.old ≡ length sizes.old * readings_most) × (length table.old ≡ table_length (length sizes.old)) }
     ensures { Opens sheet.now sizes.new days.new table.new }
@@ -36,32 +36,28 @@ fn write(sheet: &[u8], sizes: &mut [u8], days: &mut [u16], table: &mut [u32])
 }
 
 // 13, 14, then the judge pass; only what it lets pass is written.
-pub fn read_sheet(sheet: &[u8], sizes: &mut [u8], days: &mut [u16], table: &mut [u32]) -> Opened
+#[tactic(auto, unfolding(crate::specs::Opening::reading, crate::specs::Opening::lent))]
+pub fn read_sheet(
+    sheet: &[u8],
+    sizes: &mut [u8],
+    days: &mut [u16],
+    table: &mut [u32],
+) -> Result<usize, Refusal>
     ensures { Reads (reading separator sheet.now sizes.old days.old table.old) result sizes.new days.new table.new }
 {
-    if sizes.len() < FIELDS_MOST {
-        return Opened::Refused(Refusal::Short);
-    }
-    if days.len() < DAYS_MOST {
-        return Opened::Refused(Refusal::Short);
-    }
-    if table.len() < WORDS_MOST {
-        return Opened::Refused(Refusal::Short);
+    if sizes.len() < FIELDS_MOST || days.len() < DAYS_MOST || table.len() < WORDS_MOST {
+        return Err(Refusal::Short);
     }
     if sheet.len() > SHEET_MOST {
-        return Opened::Refused(Refusal::Long);
+        return Err(Refusal::Long);
     }
-    match scan::scan(sheet) {
-        Opened::Fields(n) => {
-            let words = table_length(n);
-            write(
-                sheet,
-                &mut sizes[0..n],
-                &mut days[0..n * READINGS_MOST],
-                &mut table[0..words],
-            );
-            Opened::Fields(n)
-        }
-        Opened::Refused(r) => Opened::Refused(r),
-    }
+    let n = scan::scan(sheet)?;
+    let words = table_length(n);
+    write(
+        sheet,
+        &mut sizes[..n],
+        &mut days[..n * READINGS_MOST],
+        &mut table[..words],
+    );
+    Ok(n)
 }

@@ -7,9 +7,9 @@ ghost use Rattle.sheet.specs.Opening.{opening};
 ghost use Rattle.sheet.specs.Writing.{records, fields, RulesTo};
 
 use crate::gap;
-use scan::mark::Mark;
+use scan::mark::{self, Mark};
 use scan::number::byte_at;
-use scan::{mark, record};
+use scan::record::{Interval, Pair};
 
 // Of the cell of a GP, and of its mirror, only what the interval admits stays.
 fn apply_gap(sheet: &[u8], at: usize, sizes: &[u8], days: &[u16], table: &mut [u32])
@@ -17,27 +17,18 @@ fn apply_gap(sheet: &[u8], at: usize, sizes: &[u8], days: &[u16], table: &mut [u
     ensures { RulesTo sheet.now sizes.now days.now table.new (at + 8) }
 {
     let n = sizes.len();
-    let g = record::interval_at(sheet, at);
+    let g = Interval::at(sheet, at);
     let first = gap::days_of(days, g.i, byte_at(sizes, g.i));
     let second = gap::days_of(days, g.j, byte_at(sizes, g.j));
-    gap::narrow_cell(table, n, g.i, g.j, first, second, g.lo, g.hi);
-    gap::narrow_cell(
-        table,
-        n,
-        g.j,
-        g.i,
-        second,
-        first,
-        65536 - g.hi,
-        65536 - g.lo,
-    );
+    gap::narrow_cell(table, n, g, first, second);
+    gap::narrow_cell(table, n, gap::turned(g), second, first);
 }
 
 fn apply_strike(sheet: &[u8], at: usize, sizes: &[u8], days: &[u16], table: &mut [u32])
     requires { RulesTo sheet.now sizes.now days.now table.old at × (mark_of (number_at sheet.now at) ≡ Strike) }
     ensures { RulesTo sheet.now sizes.now days.now table.new (at + 6) }
 {
-    let p = record::pair_at(sheet, at);
+    let p = Pair::at(sheet, at);
     table::strike(table, sizes.len(), p.i, p.j, p.a, p.b);
 }
 

@@ -1,148 +1,103 @@
-// Records and bytes added to the sheet; each function answers the sheet's new length.
-ghost use Rattle.std.specs.Prelude.{◌≤◌, length};
+// The sheet that a script writes, record by record.
+ghost use Rattle.std.specs.Prelude.{◌≡◌, ◌-◌, ◌++◌, [], length, take};
 
-use vectors::bytes::least;
+use crate::verbs::Verb;
+use arrayvec::ArrayVec;
 use vectors::line::Args;
 
-// One byte more, as long as there is room.
-fn put_byte(space: &mut [u8], at: usize, b: u8) -> usize
-    requires { at ≤ length space.old }
-    ensures { result ≤ length space.old }
-{
-    if at >= space.len() {
-        return at;
+// More bytes than a sheet may have, so that a script can write one too long.
+const BYTES_ROOM: usize = 4200;
+
+// The bytes, as many as there is room for, and where what was added last starts.
+#[derive(Drop)]
+pub struct Sheet {
+    bytes: ArrayVec<u8, BYTES_ROOM>,
+    last: usize,
+}
+
+impl Sheet {
+    // A sheet with no byte.
+    pub fn new() -> Sheet
+        ensures bytes { result.bytes.items ≡ [] }
+        ensures last { result.last ≡ 0 }
+    {
+        Sheet {
+            bytes: ArrayVec::new(),
+            last: 0,
+        }
     }
-    space[at] = b;
-    at + 1
-}
 
-// A number as two bytes, high byte first.
-fn put_number(space: &mut [u8], at: usize, v: u64) -> usize
-    requires { at ≤ length space.old }
-    ensures { result ≤ length space.old }
-{
-    let next = put_byte(space, at, (v / 256 % 256) as u8);
-    put_byte(space, next, (v % 256) as u8)
-}
-
-pub fn put_text(space: &mut [u8], at: usize, text: &[u8]) -> usize
-    requires { at ≤ length space.old }
-    ensures { result ≤ length space.old }
-{
-    let mut next = at;
-    let mut i = 0;
-    while i < text.len() {
-        next = put_byte(space, next, text[i]);
-        i += 1;
+    pub fn as_slice(&self) -> &[u8]
+        ensures { result.now ≡ self.now.bytes.items }
+    {
+        self.bytes.as_slice()
     }
-    next
-}
 
-// The numbers of a line, a byte each.
-pub fn put_bytes(space: &mut [u8], at: usize, args: Args) -> usize
-    requires { at ≤ length space.old }
-    ensures { result ≤ length space.old }
-{
-    let values = args.values;
-    let count = least(args.count, 32);
-    let mut next = at;
-    let mut i = 0;
-    while i < count {
-        next = put_byte(space, next, (values[i] % 256) as u8);
-        i += 1;
+    // Adds bytes, as many as there is room for.
+    pub fn put(&mut self, bytes: &[u8])
+        ensures bytes { self.new.bytes.items ≡ self.old.bytes.items ++ take (BYTES_ROOM - length self.old.bytes.items) bytes.now }
+        ensures last { self.new.last ≡ self.old.last }
+    {
+        let room = self.bytes.remaining_capacity();
+        let _ = self
+            .bytes
+            .try_extend_from_slice(bytes.get(..room).unwrap_or(bytes));
     }
-    next
-}
 
-// FD: the numbers of the line are the days.
-pub fn put_days(space: &mut [u8], at: usize, args: Args) -> usize
-    requires { at ≤ length space.old }
-    ensures { result ≤ length space.old }
-{
-    let values = args.values;
-    let count = least(args.count, 32);
-    let from = put_text(space, at, b"FD");
-    let mut next = put_byte(space, from, count as u8);
-    let mut i = 0;
-    while i < count {
-        next = put_number(space, next, values[i]);
-        i += 1;
+    // FD: the numbers of the line are the days.
+    fn put_days(&mut self, args: &Args) {
+        self.put(b"FD");
+        self.put(&[args.numbers.len() as u8]);
+        for n in &args.numbers {
+            self.put(&n.short().to_be_bytes());
+        }
     }
-    next
-}
 
-// A number of a line in 16 bits, signed.
-fn signed(args: Args, k: usize) -> u64 {
-    let values = args.values;
-    let minus = args.minus;
-    if k >= 32 {
-        return 0;
+    // GP: two fields, and the interval's two ends.
+    fn put_gap(&mut self, args: &Args) {
+        self.put(b"GP");
+        self.put(&[args.at(0).byte(), args.at(1).byte()]);
+        self.put(&args.at(2).signed().to_be_bytes());
+        self.put(&args.at(3).signed().to_be_bytes());
     }
-    let size = values[k] % 65536;
-    if minus[k] == 1 {
-        return 65536 - size;
+
+    // What was added last stands so many times in all.
+    fn put_times(&mut self, times: u64) {
+        let mut again = ArrayVec::<u8, BYTES_ROOM>::new();
+        let added = self.bytes.get(self.last..).unwrap_or_default();
+        let _ = again.try_extend_from_slice(added);
+        for _ in 1..times {
+            self.put(&again);
+        }
     }
-    size
-}
 
-// GP: two fields, and the interval's two ends.
-pub fn put_gap(space: &mut [u8], at: usize, args: Args) -> usize
-    requires { at ≤ length space.old }
-    ensures { result ≤ length space.old }
-{
-    let values = args.values;
-    let next = put_text(space, at, b"GP");
-    let next = put_byte(space, next, (values[0] % 256) as u8);
-    let next = put_byte(space, next, (values[1] % 256) as u8);
-    let next = put_number(space, next, signed(args, 2));
-    put_number(space, next, signed(args, 3))
-}
-
-// PR: two fields, and a reading of each.
-pub fn put_strike(space: &mut [u8], at: usize, args: Args) -> usize
-    requires { at ≤ length space.old }
-    ensures { result ≤ length space.old }
-{
-    let next = put_text(space, at, b"PR");
-    put_bytes(space, next, args)
-}
-
-// The byte at an offset once more.
-fn put_copy(space: &mut [u8], at: usize, from: usize) -> usize
-    requires { at ≤ length space.old }
-    ensures { result ≤ length space.old }
-{
-    if from >= space.len() {
-        return at;
+    // A line that adds to the sheet. The arms call functions that take different things, so there is no table of closures.
+    pub fn add(&mut self, verb: Verb, text: &[u8], args: &Args)
+        ensures { self.new.last ≡ length self.old.bytes.items }
+    {
+        let start = self.bytes.len();
+        match verb {
+            Verb::Date => {
+                self.put(b"DT");
+                self.put(behind(text, 3));
+            }
+            Verb::Days => self.put_days(args),
+            Verb::Gap => self.put_gap(args),
+            Verb::Strike => {
+                self.put(b"PR");
+                self.put(&args.bytes());
+            }
+            Verb::End => self.put(b"EN"),
+            Verb::Bytes => self.put(&args.bytes()),
+            Verb::Text => self.put(behind(text, 5)),
+            Verb::Times => self.put_times(args.at(0).value),
+            _ => {}
+        }
+        self.last = start;
     }
-    let b = space[from];
-    put_byte(space, at, b)
 }
 
-// What the sheet has from one offset to another once more.
-fn put_again(space: &mut [u8], at: usize, from: usize, to: usize) -> usize
-    requires { at ≤ length space.old }
-    ensures { result ≤ length space.old }
-{
-    let mut next = at;
-    let mut i = from;
-    while i < to {
-        next = put_copy(space, next, i);
-        i += 1;
-    }
-    next
-}
-
-// What was added last stands so many times in all.
-pub fn put_times(space: &mut [u8], at: usize, from: usize, times: u64) -> usize
-    requires { at ≤ length space.old }
-    ensures { result ≤ length space.old }
-{
-    let mut next = at;
-    let mut k = 1;
-    while k < times {
-        next = put_again(space, next, from, at);
-        k += 1;
-    }
-    next
+// What stands behind a verb and a space.
+fn behind(text: &[u8], start: usize) -> &[u8] {
+    text.get(start..).unwrap_or_default()
 }

@@ -1,5 +1,4 @@
-// What a line of a script asks for.
-use vectors::line::starts;
+// What a line of a script asks for. Each program has verbs and a table of its own, and this search is no longer than a call of one.
 
 // A sheet begun, lengths lent, records and bytes added to the sheet; questions; and any other line, which is a note.
 #[derive(Clone, Copy)]
@@ -26,75 +25,47 @@ pub enum Verb {
     Note,
 }
 
-pub fn verb_of(line: &[u8]) -> Verb {
-    if starts(line, b"sheet") {
-        return Verb::Sheet;
-    }
-    if starts(line, b"lend") {
-        return Verb::Lend;
-    }
-    if starts(line, b"DT") {
-        return Verb::Date;
-    }
-    if starts(line, b"FD") {
-        return Verb::Days;
-    }
-    if starts(line, b"GP") {
-        return Verb::Gap;
-    }
-    if starts(line, b"PR") {
-        return Verb::Strike;
-    }
-    if starts(line, b"EN") {
-        return Verb::End;
-    }
-    raw(line)
-}
+// The word that a line of each begins with; where one word begins another, the longer stands first.
+const WORDS: [(&str, Verb); 19] = [
+    ("sheet", Verb::Sheet),
+    ("lend", Verb::Lend),
+    ("DT", Verb::Date),
+    ("FD", Verb::Days),
+    ("GP", Verb::Gap),
+    ("PR", Verb::Strike),
+    ("EN", Verb::End),
+    ("bytes", Verb::Bytes),
+    ("text", Verb::Text),
+    ("times", Verb::Times),
+    ("read", Verb::Read),
+    ("cuts", Verb::Cuts),
+    ("cut", Verb::Cut),
+    ("field", Verb::Field),
+    ("cell", Verb::Cell),
+    ("kept", Verb::Kept),
+    ("judge", Verb::Judge),
+    ("settle", Verb::Settle),
+    ("choose", Verb::Choose),
+];
 
-fn raw(line: &[u8]) -> Verb {
-    if starts(line, b"bytes") {
-        return Verb::Bytes;
+impl Verb {
+    pub fn of(line: &[u8]) -> Verb {
+        WORDS
+            .iter()
+            .find(|(word, _)| line.starts_with(word.as_bytes()))
+            .map_or(Verb::Note, |(_, verb)| *verb)
     }
-    if starts(line, b"text") {
-        return Verb::Text;
-    }
-    if starts(line, b"times") {
-        return Verb::Times;
-    }
-    asked(line)
-}
 
-fn asked(line: &[u8]) -> Verb {
-    if starts(line, b"read") {
-        return Verb::Read;
+    // It reads the sheet or starts of it.
+    pub fn reads(self) -> bool {
+        matches!(self, Verb::Read | Verb::Cut | Verb::Cuts)
     }
-    if starts(line, b"cuts") {
-        return Verb::Cuts;
-    }
-    if starts(line, b"cut") {
-        return Verb::Cut;
-    }
-    if starts(line, b"field") {
-        return Verb::Field;
-    }
-    if starts(line, b"cell") {
-        return Verb::Cell;
-    }
-    opened(line)
-}
 
-fn opened(line: &[u8]) -> Verb {
-    if starts(line, b"kept") {
-        return Verb::Kept;
+    // It asks something of what was read.
+    pub fn asks(self) -> bool {
+        matches!(
+            self,
+            Verb::Field | Verb::Cell | Verb::Kept | Verb::Judge | Verb::Settle | Verb::Choose
+        )
     }
-    if starts(line, b"judge") {
-        return Verb::Judge;
-    }
-    if starts(line, b"settle") {
-        return Verb::Settle;
-    }
-    if starts(line, b"choose") {
-        return Verb::Choose;
-    }
-    Verb::Note
 }

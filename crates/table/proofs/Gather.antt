@@ -3,20 +3,22 @@ use mathlib.Core.Path.{◌≡◌, refl, sym, ap, ap₂, subst, ◌∙◌}
 use mathlib.Core.Bool.{Bool, false, not, ◌&&◌, ◌||◌}
 use mathlib.Core.List.{List}
 use Prim.Native.Nat.{ℕ, ◌+◌, ◌-◌, ◌^◌, ◌≤◌, ◌<◌}
-use native.Mathlib.Nat.{le_refl}
 use native.Mathlib.Numerals.{add-one}
 use native.Mathlib.Omega.{arith}
 use lib.Dec.{T, eqb, ltb}
 use lib.Bits.{bit_and, bit_or}
 use lib.ListN.{get_or}
+use Rattle.std.specs.Prelude.{None}
 use Rattle.theory.specs.Limits.{readings_most}
-use Rattle.theory.specs.Bound.{any, first}
-use Rattle.theory.specs.BoundLaws.{any_i, first_is}
+use Rattle.theory.specs.Bound.{any}
+use Rattle.theory.specs.BoundLaws.{any_i}
 use Rattle.words.specs.Word.{bit, pack}
 use Rattle.words.specs.WordLaws.{pack-lt}
 use Rattle.words.specs.MachineLaws.{or_some}
 use Rattle.words.proofs.Masks.{outside-any}
 use Rattle.table.specs.Cells.{stray_in}
+use Rattle.table.specs.Layout.{some_first}
+use Rattle.table.proofs.Search.{none_where}
 use Rattle.table.proofs.Faults.{stray_at}
 
 pub record Gathered (p : ℕ → Bool) (w a : ℕ) : Type 0 where
@@ -43,6 +45,6 @@ pub stray_bits : (size mask : ℕ) (cell : List ℕ) (a : ℕ) {m : ℕ} → get
 stray_bits size mask cell a {m} f e =
     stray_at size mask cell a e (outside-any 32 (get_or cell a 0) m f (subst (λ (x : ℕ). x < 2 ^ 32) (sym e) (pack-lt 32 (λ b. ltb a size && bit mask b))))
 
--- where there is none, the first is past the last
-pub none_first : (k : ℕ) (p : ℕ → Bool) {r : Bool} → r ≡ any k p → r ≡ false → k ≡ first k p
-none_first k p {r} e f = sym (first_is k p k (le_refl k) (λ l. absurd (omega arith)) (λ i l t. subst T (sym e ∙ f) (any_i k p i l t)))
+-- where there is none, there is no first
+pub none_any : (k : ℕ) (p : ℕ → Bool) {r : Bool} → r ≡ any k p → r ≡ false → None ≡ some_first k p
+none_any k p {r} e f = none_where k p (λ i l t. subst T (sym e ∙ f) (any_i k p i l t))

@@ -22,7 +22,8 @@ unfolding cleared
 cleared_is t a b e = ap (set t a) e
 
 -- the part lent is that of a cell, and comes back with the bit cleared
-pub cleared-part : (n : ℕ) (t : List ℕ) (i j : ℕ) {at : ℕ} (a b : ℕ) {s : List ℕ} → length t ≡ table_length n → Placed n i j at → a < readings_most → s ≡ cleared (mid_of at (at + readings_most - at) t) a b → put_mid at (at + readings_most - at) t s ≡ cleared t (row_number n i j a) b
+pub cleared-part : (n : ℕ) (t : List ℕ) (i j : ℕ) {at : ℕ} (a b : ℕ) {s : List ℕ} → length t ≡ table_length n → Placed n i j at → a < readings_most
+    → s ≡ cleared (mid_of at (at + readings_most - at) t) a b → put_mid at (at + readings_most - at) t s ≡ cleared t (row_number n i j a) b
 unfolding cleared
 cleared-part n t i j {at} a b {s} long p ha e =
     ap (put_mid at k t) (e ∙ ap (set (mid_of at k t) a) (ap (λ (w : ℕ). pack 32 (λ c. bit w c && not (eqb c b))) same))

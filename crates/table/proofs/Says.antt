@@ -9,26 +9,28 @@ use native.Mathlib.Omega.{arith}
 use lib.Dec.{T, eqb, ltb, lt→ltb, eqb→eq, eqb_refl}
 use lib.ListN.{length}
 use borrow.Author.Tests.{le-leb, lt-leb, lt-ltb, le-ltb, eq-eqb, ne_eqb}
+use Rattle.std.specs.Prelude.{Option, Some, None, option_map}
 use Rattle.theory.specs.Limits.{fields_most, readings_most}
 use Rattle.theory.specs.Bound.{any, first}
 use Rattle.theory.specs.BoundLaws.{and_i, and_r, not_i, not_e, known, lt_or_ge, any_i, any_e, first_is, first-le, first_holds, first_least, first_none}
 use Rattle.theory.specs.Relation.{Rel}
 use Rattle.refusal.specs.Said.{Said, says}
 use Rattle.table.specs.declared.layout.Row.{Row}
-use Rattle.table.specs.Layout.{table_length, table_rows, table_row, RowIn, row_number, at, first_row}
+use Rattle.table.specs.Layout.{table_length, table_rows, table_row, RowIn, row_number, at, first_row, some_first, some_first_row}
 use Rattle.table.specs.LayoutLaws.{row_in, number_in, row_of_number, number_of_row, number_by_field}
 use Rattle.table.specs.Checks.{at_first}
 use Rattle.table.specs.Shape.{bad_size, stray_row, diagonal_row, mirror_row, mirror_above, row_place, at_first_row, after_sizes, after_length, after_rows}
 use Rattle.table.specs.ShapeLaws.{Clear, xor_same}
-use Rattle.table.specs.Post.{RowAt}
+use Rattle.table.proofs.Search.{is_some, is_none, mapped_some, mapped_none}
 
 -- the first of n
 
-pub first_said : (n : ℕ) (p : ℕ → Bool) (say : ℕ → Said) (rest : Said) {f : ℕ} → f ≡ first n p → f < n → say f ≡ at_first n p say rest
-first_said n p say rest {f} e h = ap say e ∙ sym (ap (λ (b : Bool). cond b (say (first n p)) rest) (lt-ltb (first n p) n (rw e at h)))
+module _ (n : ℕ) (p : ℕ → Bool) (say : ℕ → Said) (rest : Said) where
+  at-found : first n p < n → say (first n p) ≡ at_first n p say rest
+  at-found l = sym (ap (λ (b : Bool). cond b (say (first n p)) rest) (lt-ltb (first n p) n l))
 
-pub first-passed : (n : ℕ) (p : ℕ → Bool) (say : ℕ → Said) (rest : Said) {f : ℕ} → f ≡ first n p → n ≤ f → rest ≡ at_first n p say rest
-first-passed n p say rest {f} e h = sym (ap (λ (b : Bool). cond b (say (first n p)) rest) (le-ltb (first n p) n (rw e at h)))
+  at-passed : n ≤ first n p → rest ≡ at_first n p say rest
+  at-passed h = sym (ap (λ (b : Bool). cond b (say (first n p)) rest) (le-ltb (first n p) n h))
 
 -- 1 and 2
 
@@ -45,11 +47,14 @@ module _ (sizes : List ℕ) (rest : Said) where
   unfolding after_sizes
   sizes-few n h = rw (le-leb 1 (length sizes) (omega arith), le-leb (length sizes) 16 h)
 
-  pub sizes_bad : {f : ℕ} → (length sizes ≡ 0 → ⊥) → length sizes ≤ fields_most → f ≡ first (length sizes) (bad_size sizes) → f < length sizes → says 2 (f ∷ []) ≡ after_sizes sizes rest
-  sizes_bad n h e l = first_said (length sizes) (bad_size sizes) (λ f. says 2 (f ∷ [])) rest e l ∙ sym (sizes-few n h)
+  module _ {r : Option ℕ} (n : length sizes ≡ 0 → ⊥) (h : length sizes ≤ fields_most) (e : r ≡ some_first (length sizes) (bad_size sizes)) where
+    pub sizes_bad : {f : ℕ} → r ≡ Some f → says 2 (f ∷ []) ≡ after_sizes sizes rest
+    sizes_bad s =
+        let w = is_some (length sizes) (bad_size sizes) (sym s ∙ e) in
+        rw w.0 (at-found (length sizes) (bad_size sizes) (λ f. says 2 (f ∷ [])) rest (rw (← w.0) w.1)) ∙ sym (sizes-few n h)
 
-  pub sizes-good : {f : ℕ} → (length sizes ≡ 0 → ⊥) → length sizes ≤ fields_most → f ≡ first (length sizes) (bad_size sizes) → length sizes ≤ f → rest ≡ after_sizes sizes rest
-  sizes-good n h e l = first-passed (length sizes) (bad_size sizes) (λ f. says 2 (f ∷ [])) rest e l ∙ sym (sizes-few n h)
+    pub sizes-good : r ≡ None → rest ≡ after_sizes sizes rest
+    sizes-good s = at-passed (length sizes) (bad_size sizes) (λ f. says 2 (f ∷ [])) rest (is_none (length sizes) (bad_size sizes) (sym s ∙ e)) ∙ sym (sizes-few n h)
 
 -- 3
 
@@ -65,16 +70,27 @@ module _ (n : ℕ) (t : List ℕ) (rest : Said) where
 -- 4, 5 and 6
 
 module _ (k n : ℕ) (test : ℕ → ℕ → ℕ → Bool) (rest : Said) where
-  pub row-said : {p : ℕ} {r : Row} → p ≡ first_row n test → p < table_rows n → RowAt n p r → says k (row_place r) ≡ at_first_row k n test rest
-  row-said {p} {r} e h a = ap (λ (x : Row). says k (row_place x)) a.is ∙ first_said (table_rows n) (λ q. at test (table_row n q)) (λ q. says k (row_place (table_row n q))) rest e h
+  pub row-said : {o : Option Row} {r : Row} → o ≡ some_first_row n test → o ≡ Some r → says k (row_place r) ≡ at_first_row k n test rest
+  unfolding some_first_row
+  row-said {o} {r} e s =
+      let w = mapped_some (table_row n) (table_rows n) (λ q. at test (table_row n q)) (sym s ∙ e) in
+      ap (λ (x : Row). says k (row_place x)) w.1 ∙ at-found (table_rows n) (λ q. at test (table_row n q)) (λ q. says k (row_place (table_row n q))) rest w.0
 
-  pub row-passed : {p : ℕ} → p ≡ first_row n test → table_rows n ≤ p → rest ≡ at_first_row k n test rest
-  row-passed {p} e h = first-passed (table_rows n) (λ q. at test (table_row n q)) (λ q. says k (row_place (table_row n q))) rest e h
+  pub row-passed : {o : Option Row} → o ≡ some_first_row n test → o ≡ None → rest ≡ at_first_row k n test rest
+  unfolding some_first_row
+  row-passed e s =
+      at-passed (table_rows n) (λ q. at test (table_row n q)) (λ q. says k (row_place (table_row n q))) rest
+      (mapped_none (table_row n) (table_rows n) (λ q. at test (table_row n q)) (sym s ∙ e))
 
-pub rows-clear : (n : ℕ) (test : ℕ → ℕ → ℕ → Bool) {p : ℕ} → p ≡ first_row n test → table_rows n ≤ p → Clear n test
-rows-clear n test {p} e h i j a hi hj ha t =
-    (first_none (table_rows n) (λ q. at test (table_row n q))).0 (omega (arith, e, first-le (table_rows n) (λ q. at test (table_row n q))))
-    (row_number n i j a) (number_in n i j a hi hj ha) (rw (row_of_number n i j a hj ha) t)
+pub rows-clear : (n : ℕ) (test : ℕ → ℕ → ℕ → Bool) {o : Option Row} → o ≡ some_first_row n test → o ≡ None → Clear n test
+unfolding some_first_row
+rows-clear n test {o} e s i j a hi hj ha t = (first_none (table_rows n) p).0 none (row_number n i j a) (number_in n i j a hi hj ha) (rw (row_of_number n i j a hj ha) t)
+  where
+    p : ℕ → Bool
+    p q = at test (table_row n q)
+
+    none : first (table_rows n) p ≡ table_rows n
+    none = le_antisymm (first-le (table_rows n) p) (mapped_none (table_row n) (table_rows n) p (sym s ∙ e))
 
 xor_e : (x y : Bool) → T (xor x y) → T x ⊎ T y
 unfolding xor
@@ -107,7 +123,9 @@ module _ (n : ℕ) (R : Rel) where
       w = any_e 32 (λ b. xor (R i i a b) (R i i b a)) t
 
       off : (a b : ℕ) → a < readings_most → b < readings_most → T (not (eqb a b)) → T (R i i a b) → ⊥
-      off a b ha hb n s = clear i i a hi hi ha (and_i (eqb i i) (any 32 (λ c. R i i a c && not (eqb a c))) (eqb_refl i) (any_i 32 (λ c. R i i a c && not (eqb a c)) b hb (and_i (R i i a b) (not (eqb a b)) s n)))
+      off a b ha hb n s =
+          clear i i a hi hi ha (and_i (eqb i i) (any 32 (λ c. R i i a c && not (eqb a c))) (eqb_refl i)
+          (any_i 32 (λ c. R i i a c && not (eqb a c)) b hb (and_i (R i i a b) (not (eqb a b)) s n)))
 
       go : (b : ℕ) → b < readings_most → T (xor (R i i a b) (R i i b a)) → T (eqb a b) ⊎ T (not (eqb a b)) → ⊥
       go b hb x (inl e) = xor_same (R i i a b) (R i i b a) (rw (eqb→eq a b e)) x
@@ -116,9 +134,9 @@ module _ (n : ℕ) (R : Rel) where
         | inr s ↦ off b a hb ha (not_i (eqb b a) (λ q. not_e (eqb a b) e (rw (eqb→eq b a q) (eqb_refl a)))) s
       ]
 
-  pub mirror_first : Clear n (diagonal_row R) → first_row n (mirror_above R) ≡ first_row n (mirror_row R)
+  mirror-first : Clear n (diagonal_row R) → first_row n (mirror_above R) ≡ first_row n (mirror_row R)
   unfolding mirror_above
-  mirror_first clear = sym (first_is (table_rows n) (λ p. at (mirror_row R) (table_row n p)) k (first-le (table_rows n) above) hit none)
+  mirror-first clear = sym (first_is (table_rows n) (λ p. at (mirror_row R) (table_row n p)) k (first-le (table_rows n) above) hit none)
     where
       above : ℕ → Bool
       above p = at (mirror_above R) (table_row n p)
@@ -152,29 +170,36 @@ module _ (n : ℕ) (R : Rel) where
           go r (inr g) (inl h) = earlier r h (partner i j a r.reading t)
           go r (inr g) (inr h) = own clear i a r.first r.reading (subst (λ (x : ℕ). T (mirror_row R i x a)) (le_antisymm g h) t)
 
-module _ (n : ℕ) (size : ℕ → ℕ) (R : Rel) (rest : Said) {p : ℕ} (stray : p ≡ first_row n (stray_row size R)) where
-  pub rows_stray : {r : Row} → p < table_rows n → RowAt n p r → says 4 (row_place r) ≡ after_rows n size R rest
-  unfolding after_rows
-  rows_stray h at = row-said 4 n (stray_row size R) (at_first_row 5 n (diagonal_row R) (at_first_row 6 n (mirror_row R) rest)) stray h at
+  pub mirror_first : Clear n (diagonal_row R) → some_first_row n (mirror_above R) ≡ some_first_row n (mirror_row R)
+  unfolding some_first_row some_first
+  mirror_first clear = ap (λ (f : ℕ). option_map (table_row n) (cond (ltb f (table_rows n)) (Some f) None)) (mirror-first clear)
 
-  module _ {d : ℕ} (inside : table_rows n ≤ p) (diagonal : d ≡ first_row n (diagonal_row R)) where
-    pub rows_diagonal : {r : Row} → d < table_rows n → RowAt n d r → says 5 (row_place r) ≡ after_rows n size R rest
+module _ (n : ℕ) (size : ℕ → ℕ) (R : Rel) (rest : Said) {o : Option Row} (stray : o ≡ some_first_row n (stray_row size R)) where
+  pub rows_stray : {r : Row} → o ≡ Some r → says 4 (row_place r) ≡ after_rows n size R rest
+  unfolding after_rows
+  rows_stray s = row-said 4 n (stray_row size R) (at_first_row 5 n (diagonal_row R) (at_first_row 6 n (mirror_row R) rest)) stray s
+
+  module _ {d : Option Row} (inside : o ≡ None) (diagonal : d ≡ some_first_row n (diagonal_row R)) where
+    pub rows_diagonal : {r : Row} → d ≡ Some r → says 5 (row_place r) ≡ after_rows n size R rest
     unfolding after_rows
-    rows_diagonal h at =
-        row-said 5 n (diagonal_row R) (at_first_row 6 n (mirror_row R) rest) diagonal h at
+    rows_diagonal s =
+        row-said 5 n (diagonal_row R) (at_first_row 6 n (mirror_row R) rest) diagonal s
         ∙ row-passed 4 n (stray_row size R) (at_first_row 5 n (diagonal_row R) (at_first_row 6 n (mirror_row R) rest)) stray inside
 
-    module _ {m : ℕ} (own : table_rows n ≤ d) (mirror : m ≡ first_row n (mirror_above R)) where
-      pub rows_mirror : {r : Row} → m < table_rows n → RowAt n m r → says 6 (row_place r) ≡ after_rows n size R rest
+    module _ {m : Option Row} (own : d ≡ None) (mirror : m ≡ some_first_row n (mirror_above R)) where
+      whole : m ≡ some_first_row n (mirror_row R)
+      whole = mirror ∙ mirror_first n R (rows-clear n (diagonal_row R) diagonal own)
+
+      pub rows_mirror : {r : Row} → m ≡ Some r → says 6 (row_place r) ≡ after_rows n size R rest
       unfolding after_rows
-      rows_mirror h at =
-          row-said 6 n (mirror_row R) rest (mirror ∙ mirror_first n R (rows-clear n (diagonal_row R) diagonal own)) h at
+      rows_mirror s =
+          row-said 6 n (mirror_row R) rest whole s
           ∙ row-passed 5 n (diagonal_row R) (at_first_row 6 n (mirror_row R) rest) diagonal own
           ∙ row-passed 4 n (stray_row size R) (at_first_row 5 n (diagonal_row R) (at_first_row 6 n (mirror_row R) rest)) stray inside
 
-      pub rows-good : table_rows n ≤ m → rest ≡ after_rows n size R rest
+      pub rows-good : m ≡ None → rest ≡ after_rows n size R rest
       unfolding after_rows
-      rows-good h =
-          row-passed 6 n (mirror_row R) rest (mirror ∙ mirror_first n R (rows-clear n (diagonal_row R) diagonal own)) h
+      rows-good s =
+          row-passed 6 n (mirror_row R) rest whole s
           ∙ row-passed 5 n (diagonal_row R) (at_first_row 6 n (mirror_row R) rest) diagonal own
           ∙ row-passed 4 n (stray_row size R) (at_first_row 5 n (diagonal_row R) (at_first_row 6 n (mirror_row R) rest)) stray inside

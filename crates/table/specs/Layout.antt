@@ -1,6 +1,6 @@
 -- How a table lies in words, known here alone (01, "The table"): cell (i, j) starts at word (i * n + j) * 32; its word a is row a, and
 -- bit b of that says that reading a of field i goes with reading b of field j.
-use Rattle.std.specs.Prelude.{◌≡◌, Bool, ◌&&◌, List, [], ◌∷◌, ℕ, zero, suc, ◌+◌, ◌*◌, ◌/◌, ◌%◌, ◌≤◌, ◌<◌, ltb, length, get_or, take, drop}
+use Rattle.std.specs.Prelude.{◌≡◌, Bool, cond, ◌&&◌, Option, Some, None, option_map, List, [], ◌∷◌, ℕ, zero, suc, ◌+◌, ◌*◌, ◌/◌, ◌%◌, ◌≤◌, ◌<◌, ltb, length, get_or, take, drop}
 use Rattle.theory.specs.Limits.{fields_most, readings_most}
 use Rattle.theory.specs.Bound.{first}
 use Rattle.theory.specs.Relation.{Rel}
@@ -65,6 +65,14 @@ at test r = test r.i r.j r.a
 -- the number of the first row that a test finds, in table order; the number of rows where it finds none
 abbrev pub first_row : ℕ → (ℕ → ℕ → ℕ → Bool) → ℕ
 first_row n test = first (table_rows n) (λ p. at test (table_row n p))
+
+-- the first number below n of which p holds, where there is one
+unfoldable pub some_first : ℕ → (ℕ → Bool) → Option ℕ
+some_first n p = cond (ltb (first n p) n) (Some (first n p)) None
+
+-- the first row that a test finds, in table order, where there is one
+unfoldable pub some_first_row : ℕ → (ℕ → ℕ → ℕ → Bool) → Option Row
+some_first_row n test = option_map (table_row n) (some_first (table_rows n) (λ p. at test (table_row n p)))
 
 -- f 0, f 1, .. f (k - 1)
 unfoldable pub tabulate : ℕ → (ℕ → ℕ) → List ℕ

@@ -1,10 +1,10 @@
 -- The theorems of tables, each beside the sentence of 01 that it carries.
-use Rattle.std.specs.Prelude.{◌≡◌, ◌↔◌, ◌⊎◌, List, [], ℕ, ◌<◌, length}
+use Rattle.std.specs.Prelude.{◌≡◌, ◌↔◌, ◌⊎◌, List, [], ℕ, ◌<◌, length, Result}
 use Rattle.std.proofs.Common.{sym, ◌∙◌}
 use Rattle.theory.specs.Limits.{readings_most}
 use Rattle.refusal.specs.Said.{Said, says}
+use Rattle.refusal.specs.declared.Refusal.{Refusal}
 use Rattle.table.specs.declared.layout.Row.{Row}
-use Rattle.table.specs.declared.shaping.Shaped.{Shaped}
 use Rattle.table.specs.Layout.{row_number, rel, words}
 use Rattle.table.specs.LayoutLaws.{Fit, number-order, words-rel}
 use Rattle.table.specs.Post.{Placed, CellWords, RowAt}
@@ -38,10 +38,10 @@ good_table_is_its_words sizes t g f = words-rel (length sizes) t g.long f
 
 -- "that two results satisfying the statement coincide"
 
-pub sized_is_one : (sizes : List ℕ) (x y : Shaped) → said_shaped x ≡ after_sizes sizes (says 0 []) → said_shaped y ≡ after_sizes sizes (says 0 []) → x ≡ y
+pub sized_is_one : (sizes : List ℕ) (x y : Result Unit Refusal) → said_shaped x ≡ after_sizes sizes (says 0 []) → said_shaped y ≡ after_sizes sizes (says 0 []) → x ≡ y
 sized_is_one sizes x y p q = shaped_determined x y (p ∙ sym q)
 
-pub shape_is_one : (sizes t : List ℕ) (x y : Shaped) → said_shaped x ≡ after_shape sizes t (says 0 []) → said_shaped y ≡ after_shape sizes t (says 0 []) → x ≡ y
+pub shape_is_one : (sizes t : List ℕ) (x y : Result Unit Refusal) → said_shaped x ≡ after_shape sizes t (says 0 []) → said_shaped y ≡ after_shape sizes t (says 0 []) → x ≡ y
 shape_is_one sizes t x y p q = shaped_determined x y (p ∙ sym q)
 
 pub cell_start_is_one : (n i j r s : ℕ) → Placed n i j r → Placed n i j s → r ≡ s

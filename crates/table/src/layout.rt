@@ -1,8 +1,8 @@
 // How a table lies in words: the one place that finds a cell or a row.
-ghost use Rattle.std.specs.Prelude.{◌≡◌, ◌<◌, ◌≤◌, length};
+ghost use Rattle.std.specs.Prelude.{◌≡◌, ℕ, Bool, ◌<◌, ◌≤◌, length};
 ghost use Rattle.theory.specs.Limits.{fields_most, readings_most};
-ghost use Rattle.table.specs.Layout.{Sized, row, table_length, table_rows, size_of};
-ghost use Rattle.table.specs.Post.{Placed, CellWords, RowAt};
+ghost use Rattle.table.specs.Layout.{Sized, row, table_length, table_rows, size_of, some_first_row};
+ghost use Rattle.table.specs.Post.{Placed, CellWords, RowAt, FindsIn};
 
 // A table has 1 to this many fields.
 pub const FIELDS_MOST: usize = 16;
@@ -11,7 +11,7 @@ pub const FIELDS_MOST: usize = 16;
 pub const READINGS_MOST: usize = 32;
 
 // Row a of cell (i, j).
-#[derive(Drop)]
+#[derive(Clone, Copy)]
 pub struct Row {
     pub i: usize,
     pub j: usize,
@@ -34,7 +34,7 @@ pub fn cell_start(n: usize, i: usize, j: usize) -> usize
     (i * n + j) * READINGS_MOST
 }
 
-// Row a of cell (i, j).
+// Row a of cell (i, j). Here and below a table is two parameters, its words and its number of fields: docs/PROMISES.md names these functions.
 pub fn row_word(table: &[u32], n: usize, i: usize, j: usize, a: usize) -> u32
     requires { Sized n table.now × (i < n) × (j < n) × (a < readings_most) }
     ensures { result ≡ row n table.now i j a }
@@ -52,7 +52,7 @@ pub fn cell(table: &[u32], n: usize, i: usize, j: usize) -> &[u32]
     &table[at..end]
 }
 
-// The row at number p in table order.
+// The row at number p in table order. docs/PROMISES.md names it; first_row counts no rows.
 pub fn row_at(n: usize, p: usize) -> Row
     requires { p < table_rows n }
     ensures { RowAt n p result }
@@ -65,10 +65,26 @@ pub fn row_at(n: usize, p: usize) -> Row
     }
 }
 
+// The first row, in table order, that fails a test: the closure finds the first that fails in one cell, if there is one.
+pub fn first_row<F: Fn(usize, usize) -> Option<usize>>(n: usize, in_cell: F) -> Option<Row>
+    requires { (i j : ℕ) → i < n → j < n → F.pre in_cell i j }
+    ensures { (test : ℕ → ℕ → ℕ → Bool) → FindsIn n test (F.post in_cell) → result ≡ some_first_row n test }
+{
+    for i in 0..n {
+        for j in 0..n {
+            if let Some(a) = in_cell(i, j) {
+                return Some(Row { i, j, a });
+            }
+        }
+    }
+    None
+}
+
 // The size of field i.
+#[tactic(auto, unfolding(crate::specs::Layout::size_of))]
 pub fn field_size(sizes: &[u8], i: usize) -> u32
     requires { i < length sizes.now }
     ensures { result ≡ size_of sizes.now i }
 {
-    sizes[i] as u32
+    u32::from(sizes[i])
 }

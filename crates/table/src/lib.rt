@@ -6,7 +6,8 @@ pub mod shaping;
 pub mod striking;
 
 pub use layout::{
-    FIELDS_MOST, READINGS_MOST, Row, cell, cell_start, field_size, row_at, row_word, table_length,
+    FIELDS_MOST, READINGS_MOST, Row, cell, cell_start, field_size, first_row, row_at, row_word,
+    table_length,
 };
-pub use shaping::{Shaped, shape, sized};
+pub use shaping::{shape, sized};
 pub use striking::strike;

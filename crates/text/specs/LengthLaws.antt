@@ -42,7 +42,15 @@ place-length (v ∷ vs) h a = omega (arith, length-append (ascii " at") (numbers
 
 pub state-length : (s : Said) → s.state < 100 → length s.values ≤ 3 → Digits 20 s.values → length (state_line s) ≤ line_most
 unfolding state_line
-state-length s h l a = omega (arith, length-append (said "state" (s.state ∷ [])) (place_text s.values ++ line_feed), length-append (ascii "state") (numbers (s.state ∷ [])), numbers-length 1 (s.state ∷ []) (h, tt), length-append (place_text s.values) line_feed, place-length s.values l a)
+state-length s h l a =
+    omega (
+      arith,
+      length-append (said "state" (s.state ∷ [])) (place_text s.values ++ line_feed),
+      length-append (ascii "state") (numbers (s.state ∷ [])),
+      numbers-length 1 (s.state ∷ []) (h, tt),
+      length-append (place_text s.values) line_feed,
+      place-length s.values l a,
+    )
 
 pub rounds-length : (r : ℕ) → r < 1000000 → length (rounds_line r) ≤ 14
 unfolding rounds_line

@@ -1,6 +1,8 @@
 pub mod Text
 pub mod Writing
+pub mod Puts
 pub mod WritingLaws
+pub mod PutsLaws
 pub mod TextLaws
 pub mod JoinedLaws
 pub mod LengthLaws

@@ -2,6 +2,8 @@
 use Rattle.std.proofs.Common.{lt-ltb, le-ltb, sym, ap, ◌∙◌, inl, inr, append-nil, append_assoc, arith, length-append}
 use Rattle.std.specs.Prelude.{◌≡◌, refl, List, [], ◌∷◌, ◌++◌, ℕ, zero, suc, ◌/◌, ◌%◌, ◌^◌, ◌≤◌, ◌<◌, length}
 use Rattle.std.proofs.Math.Nat.{pow-succ'}
+use Rattle.std.proofs.lemmas.Fmt.{decimal_from_appends, length-decimal-le_succ}
+use Rattle.std.specs.Fmt.{decimal as printed}
 use Rattle.theory.specs.BoundLaws.{lt_or_ge}
 use Rattle.refusal.specs.Said.{Said}
 use Rattle.text.specs.Text.{ascii, digit, digits, decimal, number, numbers, said, line_feed, Closed, place_text, state_line, word_for, first_line}
@@ -30,6 +32,11 @@ decimal-small n h = digits-small n n h
 pub decimal_large : (n : ℕ) → 10 ≤ n → decimal n ≡ decimal (n / 10) ++ (digit (n % 10) ∷ [])
 unfolding decimal
 decimal_large n h = digits_large n n h ∙ ap (λ (d : List ℕ). d ++ (digit (n % 10) ∷ [])) (digits_same n (suc (n / 10)) (n / 10) (omega arith) (omega arith))
+
+-- what `{}` prints
+pub printed_decimal : (n : ℕ) → n < 2 ^ 64 → printed n ≡ decimal n
+unfolding decimal
+printed_decimal n h = sym (decimal_from_appends digits (record { one = digits-small; more = digits_large }) (suc n) n h (omega (arith, length-decimal-le_succ n h)))
 
 -- a number below 10 ^ (k + 1) has at most k + 1 digits
 pub decimal-length : (k n : ℕ) → n < 10 ^ suc k → length (decimal n) ≤ suc k

@@ -1,8 +1,11 @@
 // Numbers, words and lines of a printed text.
 #![tactic(auto)]
 
-pub mod lines;
+mod lines;
 mod refused;
-pub mod write;
+mod shown;
+mod write;
 
 pub use refused::{LINE_MOST, Line, refusal_line};
+pub use shown::Text;
+pub use write::Writer;

@@ -1,65 +1,57 @@
-// Bytes, words and numbers put into a lent text, one after the other. Each function is told where its text starts, and answers where
-// the next one does.
-ghost use Rattle.std.specs.Prelude.{◌≡◌, [], ◌∷◌, ◌<◌};
-ghost use Rattle.text.specs.Text.{digit, decimal, number, numbers};
-ghost use Rattle.text.specs.Writing.{Room, Wrote};
+// Bytes, words and numbers put into a lent text, one after the other. Each asks for room for what it puts, which no invariant of the
+// writer could say; and not by `write!`, whose error could not come and would have to be answered.
+ghost use Rattle.std.specs.Prelude.{[], ◌∷◌};
+ghost use Rattle.text.specs.Text.{decimal, numbers};
+ghost use Rattle.text.specs.Puts.{Fits, Puts};
 
-const SPACE: u8 = 32;
+use itoa::Buffer;
 
-// One byte.
-pub fn put_byte(out: &mut [u8], at: usize, b: u8) -> usize
-    requires { Room out.old at (b ∷ []) }
-    ensures { Wrote out.old out.new at result (b ∷ []) }
-{
-    out[at] = b;
-    at + 1
+const SPACE: u8 = b' ';
+
+// A lent text, and the place in it where the next byte goes.
+#[derive(Drop)]
+pub struct Writer<'t> {
+    pub out: &'t mut [u8],
+    pub at: usize,
 }
 
-// All of the bytes.
-pub fn put_bytes(out: &mut [u8], at: usize, bytes: &[u8]) -> usize
-    requires { Room out.old at bytes.now }
-    ensures { Wrote out.old out.new at result bytes.now }
-{
-    let mut next = at;
-    let mut k = 0;
-    while k < bytes.len() {
-        next = put_byte(out, next, bytes[k]);
-        k += 1;
+impl<'t> Writer<'t> {
+    // One byte.
+    pub fn put_byte(&mut self, b: u8)
+        requires { Fits self.old (b ∷ []) }
+        ensures { Puts self.old self.new (b ∷ []) }
+    {
+        self.out[self.at] = b;
+        self.at += 1;
     }
-    next
-}
 
-// The byte of a digit.
-fn digit(d: usize) -> u8
-    requires { d < 10 }
-    ensures { result ≡ digit d }
-{
-    48 + d as u8
-}
-
-// A number in decimal.
-pub fn put_decimal(out: &mut [u8], at: usize, n: usize) -> usize
-    requires { Room out.old at (decimal n) }
-    ensures { Wrote out.old out.new at result (decimal n) }
-{
-    if n < 10 {
-        return put_byte(out, at, digit(n));
+    // All of the bytes.
+    pub fn put_bytes(&mut self, bytes: &[u8])
+        requires { Fits self.old bytes.now }
+        ensures { Puts self.old self.new bytes.now }
+    {
+        let end = self.at + bytes.len();
+        self.out[self.at..end].copy_from_slice(bytes);
+        self.at = end;
     }
-    let next = put_decimal(out, at, n / 10);
-    put_byte(out, next, digit(n % 10))
-}
 
-// Numbers, a space before each.
-pub fn put_numbers(out: &mut [u8], at: usize, values: &[usize]) -> usize
-    requires { Room out.old at (numbers values.now) }
-    ensures { Wrote out.old out.new at result (numbers values.now) }
-{
-    let mut next = at;
-    let mut k = 0;
-    while k < values.len() {
-        next = put_byte(out, next, SPACE);
-        next = put_decimal(out, next, values[k]);
-        k += 1;
+    // A number in decimal.
+    pub fn put_decimal(&mut self, n: usize)
+        requires { Fits self.old (decimal n) }
+        ensures { Puts self.old self.new (decimal n) }
+    {
+        let mut buffer = Buffer::new();
+        self.put_bytes(buffer.format(n).as_bytes());
     }
-    next
+
+    // Numbers, a space before each.
+    pub fn put_numbers(&mut self, values: &[usize])
+        requires { Fits self.old (numbers values.now) }
+        ensures { Puts self.old self.new (numbers values.now) }
+    {
+        for v in values {
+            self.put_byte(SPACE);
+            self.put_decimal(*v);
+        }
+    }
 }

@@ -2,7 +2,6 @@
 #![tactic(auto)]
 
 pub mod asking;
-pub mod bytes;
 pub mod file;
 pub mod line;
 pub mod print;

@@ -1,84 +1,111 @@
-// A line of a script: the word it begins with, and its numbers.
-ghost use Rattle.std.specs.Prelude.{◌≤◌};
+// A line of a script: its numbers.
+ghost use Rattle.std.specs.Prelude.{◌≡◌, ◌+◌, ◌%◌, ◌^◌, min, map, IsTrue, IsFalse, ◌<◌, IfSome};
+ghost use Rattle.vectors.specs.Numbers.{number_at};
 
-// The decimal numbers of a line, and 1 for each that follows a minus; those past the 32nd are left out.
-#[derive(Clone, Copy)]
+use arrayvec::ArrayVec;
+
+// The numbers of a line that count.
+pub const NUMBERS_MOST: usize = 32;
+
+// A number is cut to twelve digits before the next is added: numbers of a script are small.
+const CUT: u64 = 1_000_000_000_000;
+
+// A larger number is no field, place or length either way.
+const SIZE_MOST: u64 = 1 << 32;
+
+// A number, and whether a minus stands between it and the number before it: 0 has a minus as well, so it is no signed number.
+#[derive(Clone, Copy, Default)]
+pub struct Number {
+    pub value: u64,
+    pub minus: bool,
+}
+
+impl Number {
+    pub fn byte(self) -> u8
+        ensures { result ≡ self.value % 256 }
+    {
+        (self.value % 256) as u8
+    }
+
+    // A field, a place or a length; a larger number is cut.
+    pub fn size(self) -> usize
+        ensures { result ≡ min self.value (2 ^ 32) }
+    {
+        self.value.min(SIZE_MOST) as usize
+    }
+
+    pub fn short(self) -> u16
+        ensures { result ≡ self.value % 2 ^ 16 }
+    {
+        (self.value % 65536) as u16
+    }
+
+    // In 16 bits, signed.
+    pub fn signed(self) -> u16
+        ensures plus { IsFalse self.minus → result ≡ self.value % 2 ^ 16 }
+        ensures minus { IsTrue self.minus → (result + self.value) % 2 ^ 16 ≡ 0 }
+    {
+        let size = self.short();
+        if self.minus {
+            size.wrapping_neg()
+        } else {
+            size
+        }
+    }
+}
+
+// The decimal numbers of a line; those past the 32nd are left out.
+#[derive(Drop)]
 pub struct Args {
-    pub count: usize,
-    pub values: [u64; 32],
-    pub minus: [u64; 32],
+    pub numbers: ArrayVec<Number, NUMBERS_MOST>,
 }
 
-// The line begins with the word.
-pub fn starts(line: &[u8], word: &[u8]) -> bool {
-    if line.len() < word.len() {
-        return false;
+impl Args {
+    // The number at a place, 0 where the line has none there.
+    pub fn at(&self, k: usize) -> Number
+        ensures { result ≡ number_at self.now k }
+    {
+        self.numbers.get(k).copied().unwrap_or_default()
     }
-    let mut i = 0;
-    while i < word.len() {
-        if line[i] != word[i] {
-            return false;
+
+    // The numbers as bytes.
+    pub fn bytes(&self) -> ArrayVec<u8, NUMBERS_MOST>
+        ensures { result.items ≡ map (λ n. n.value % 256) self.now.numbers.items }
+    {
+        let mut bytes = ArrayVec::new();
+        for n in self.numbers.as_slice() {
+            let _ = bytes.try_push(n.byte());
         }
-        i += 1;
+        bytes
     }
-    true
 }
 
-// A digit's value, and 10 for any other byte.
-fn digit(b: u8) -> u64
-    ensures { result ≤ 10 }
+// The number of a digit; None for any other byte.
+fn digit(b: u8) -> Option<u8>
+    ensures { IfSome result (λ d. d < 10) }
 {
-    if b < b'0' {
-        return 10;
-    }
-    if b > b'9' {
-        return 10;
-    }
-    (b - b'0') as u64
-}
-
-// The number at a place gets one digit more. Numbers of a script are small, and one that is not is cut.
-fn lengthen(values: &mut [u64; 32], at: usize, d: u64)
-    requires { d ≤ 10 }
-{
-    if at < 32 {
-        values[at] = values[at] % 1000000000000 * 10 + d;
+    match b {
+        b'0'..=b'9' => Some(b - b'0'),
+        _ => None,
     }
 }
 
-// The number at a place follows a byte that may be a minus.
-fn sign(minus: &mut [u64; 32], at: usize, b: u8) {
-    if at < 32 {
-        if b == b'-' {
-            minus[at] = 1;
-        }
-    }
+// A number with one digit more.
+fn lengthened(value: u64, digit: u8) -> u64 {
+    value % CUT * 10 + u64::from(digit)
 }
 
 // The numbers of a line, apart from what stands between them.
 pub fn numbers(line: &[u8]) -> Args {
-    let mut values = [0u64; 32];
-    let mut minus = [0u64; 32];
-    let mut count: usize = 0;
-    let mut inside = false;
-    let mut i = 0;
-    while i < line.len() {
-        let d = digit(line[i]);
-        if d < 10 {
-            lengthen(&mut values, count, d);
-        } else if inside {
-            count += 1;
+    let mut numbers = ArrayVec::new();
+    let mut minus = false;
+    for run in line.chunk_by(|a, b| digit(*a).is_some() == digit(*b).is_some()) {
+        let mut digits = run.iter().filter_map(|b| digit(*b));
+        if let Some(first) = digits.next() {
+            let value = digits.fold(u64::from(first), lengthened);
+            let _ = numbers.try_push(Number { value, minus });
         }
-        sign(&mut minus, count, line[i]);
-        inside = d < 10;
-        i += 1;
+        minus = run.contains(&b'-');
     }
-    if inside {
-        count += 1;
-    }
-    Args {
-        count,
-        values,
-        minus,
-    }
+    Args { numbers }
 }

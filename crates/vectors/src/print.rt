@@ -1,5 +1,6 @@
 // Answers as numbers on one line. An error means that the line may be cut off anywhere.
 use refusal::Refusal;
+use std::fmt::Display;
 use std::io;
 
 // Bytes as they are; a line of a script need not be text.
@@ -7,22 +8,31 @@ pub fn text<P: Print>(rt: &P, t: &[u8]) -> io::Result<()> {
     rt.write_all(t)
 }
 
+// A line that asks something, before its answer.
+pub fn question<P: Print>(rt: &P, line: &[u8]) -> io::Result<()> {
+    text(rt, line)?;
+    text(rt, b":")
+}
+
 // A space and a number.
-pub fn number<P: Print>(rt: &P, n: u64) -> io::Result<()> {
+pub fn number<P: Print, N: Display + Drop>(rt: &P, n: N) -> io::Result<()> {
     print!(rt; " {n}")
 }
 
-// A space and a row's word, a day, or a byte.
-pub fn word<P: Print>(rt: &P, w: u32) -> io::Result<()> {
-    number(rt, w as u64)
+// Each after a space.
+pub fn numbers<P: Print, N: Display + Copy>(rt: &P, numbers: &[N]) -> io::Result<()> {
+    for n in numbers {
+        number(rt, *n)?;
+    }
+    Ok(())
 }
 
-pub fn day<P: Print>(rt: &P, d: u16) -> io::Result<()> {
-    number(rt, d as u64)
-}
-
-pub fn byte<P: Print>(rt: &P, b: u8) -> io::Result<()> {
-    number(rt, b as u64)
+// The first of them, so many or all that there are.
+pub fn first<P: Print, N: Display + Copy>(rt: &P, numbers: &[N], most: usize) -> io::Result<()> {
+    for n in numbers.iter().take(most) {
+        number(rt, *n)?;
+    }
+    Ok(())
 }
 
 pub fn line_ends<P: Print>(rt: &P) -> io::Result<()> {
@@ -31,16 +41,7 @@ pub fn line_ends<P: Print>(rt: &P) -> io::Result<()> {
 
 // The refusal's number and the values of its place.
 pub fn refusal<P: Print>(rt: &P, r: Refusal) -> io::Result<()> {
-    let p = refusal::in_numbers(r);
-    let values = p.values;
-    let count = p.count;
-    number(rt, p.number as u64)?;
-    let mut i = 0;
-    while i < 3 {
-        if i < count {
-            number(rt, values[i] as u64)?;
-        }
-        i += 1;
-    }
-    Ok(())
+    let place = refusal::in_numbers(r);
+    number(rt, place.number)?;
+    first(rt, &place.values, place.count)
 }

@@ -72,3 +72,6 @@ parted_2 = tt
 pub parted_1 : T (parted 1 1431655765)
 unfolding parted all xor bit
 parted_1 = tt
+
+-- the masks of the five passes
+pub ruleset partings = (parted_16, parted_8, parted_4, parted_2, parted_1)

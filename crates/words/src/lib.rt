@@ -1,4 +1,5 @@
-// One row of 32 bits: tested, changed, narrowed, spanned and counted.
+// One row of 32 bits: tested, changed, narrowed, spanned and counted. A bit is a number below 32 and a cell a slice of 32 words:
+// docs/PROMISES.md names these functions, and a type of bits or of cells would ask more of those who call them.
 #![tactic(auto)]
 
 mod turn;
@@ -9,9 +10,6 @@ ghost use Rattle.theory.specs.Rows.{whole};
 ghost use Rattle.words.specs.Word.{bit, pack, spanned};
 
 pub use turn::turned;
-
-// Every bit.
-const ALL: u32 = 0xffff_ffff;
 
 // Bit b of w is 1.
 pub fn has(w: u32, b: u32) -> bool
@@ -48,8 +46,8 @@ pub fn both(w: u32, v: u32) -> u32
 pub fn below(size: u32) -> u32
     ensures { result ≡ pack 32 (λ b. ltb b size) }
 {
-    if size >= 32 {
-        return ALL;
+    if size >= u32::BITS {
+        return u32::MAX;
     }
     (1 << size) - 1
 }
@@ -70,7 +68,7 @@ pub fn narrowed(w: u32, row: u32, cell: &[u32]) -> u32
     let mut left = w;
     let mut rest = row;
     while left != 0 && rest != 0 {
-        left &= !cell[u32::trailing_zeros(rest) as usize];
+        left &= !cell[rest.trailing_zeros() as usize];
         rest &= rest - 1;
     }
     w & !left
@@ -83,7 +81,7 @@ pub fn span(w: u32) -> u32
     if w == 0 {
         return 0;
     }
-    (ALL >> u32::leading_zeros(w)) & (ALL << u32::trailing_zeros(w))
+    (u32::MAX >> w.leading_zeros()) & (u32::MAX << w.trailing_zeros())
 }
 
 // The row w is whole: no bit of stand between two of its ones is missing.
@@ -97,12 +95,12 @@ pub fn is_whole(w: u32, stand: u32) -> bool
 pub fn ones(w: u32) -> u32
     ensures { result ≡ count 32 (bit w) }
 {
-    u32::count_ones(w)
+    w.count_ones()
 }
 
 // The lowest bit of w that is 1, or 32.
 pub fn lowest(w: u32) -> u32
     ensures { result ≡ first 32 (bit w) }
 {
-    u32::trailing_zeros(w)
+    w.trailing_zeros()
 }

@@ -1,4 +1,5 @@
-// A cell of 32 words turned over, in five passes of 16 pairs of words.
+// A cell of 32 words turned over, in five passes of 16 pairs of words. Distance and mask are two parameters: a struct of them
+// would be made at each of the five calls and taken apart in the next.
 ghost use Rattle.std.specs.Prelude.{◌≡◌, ◌&&◌, ◌||◌, not, ◌+◌, ◌-◌, ◌<◌, T, length};
 ghost use Rattle.words.specs.Word.{bit, pack};
 ghost use Rattle.words.specs.Turn.{parted, Exchanged, Turned};
@@ -25,18 +26,17 @@ fn exchanged(cell: &[u32], k: u32, mask: u32) -> [u32; 32]
     ensures { Exchanged k mask cell.now result }
 {
     let mut out = [0u32; 32];
-    let mut q: usize = 0;
-    while q < 16 {
+    for q in 0..16 {
         let x = cell[q];
         let y = cell[q + 16];
         out[2 * q] = low_of(x, y, k, mask);
         out[2 * q + 1] = high_of(x, y, k, mask);
-        q += 1;
     }
     out
 }
 
 // The cell turned over: bit b of word a is bit a of word b of the given one.
+#[tactic(auto, using(crate::proofs::Whence::partings))]
 pub fn turned(cell: &[u32]) -> [u32; 32]
     requires { length cell.now ≡ 32 }
     ensures { Turned cell.now result }

@@ -1,5 +1,5 @@
 -- `calendar::read_long` meets its contract: a text without the shape is refused, and of any other the dates that it shows are taken one after the other.
-use mathlib.Core.Path.{◌≡◌, sym, ◌∙◌}
+use mathlib.Core.Path.{◌≡◌, refl, sym, ◌∙◌}
 use mathlib.Core.List.{List, [], ◌∷◌}
 use Prim.Native.Nat.{ℕ, ◌≤◌}
 use native.Mathlib.Omega.{arith}
@@ -11,14 +11,14 @@ use Rattle.calendar.specs.DateText.{date_length, short_length, separator, pair_a
 use Rattle.calendar.specs.WritingLaws.{laid_length}
 use Rattle.calendar.specs.DateTextLaws.{shaped_as_long, shown-long, long_laid, long_years}
 use Rattle.calendar.specs.DaysFound.{Holds, held}
-use Rattle.calendar.specs.declared.found.Found.{Found}
+use Rattle.calendar.specs.declared.Days.{Days}
 use Rattle.calendar.specs.DateAnswersLaws.{reads_shaped, reads_shapeless}
 use Rattle.calendar.proofs.Held.{held_is, holds-held, room_for, room_after}
 use Rattle.calendar.proofs.Laid.{passed}
 use Rattle.calendar.proofs.read_long.Goals as goal
 
 pub returns-then-not-shaped_long : goal.returns-then-not-shaped_long
-returns-then-not-shaped_long c = reads_shapeless separator _ _ (shaped_as_long _ separator c.requires ∙ sym c.shaped_long.ensures ∙ c.if-not-shaped_long.true) c.refused.ensures
+returns-then-not-shaped_long c = reads_shapeless separator _ _ (shaped_as_long _ separator c.requires ∙ sym c.shaped_long.ensures ∙ c.if-not-shaped_long.true) (record { said = refl; days = refl })
 
 -- past the test the text has the shape, so that its year stands there and is one of the century
 long : (text : List ℕ) {a : Bool} → a ≡ shaped_long separator text → a ≡ true → length text ≡ date_length
@@ -40,14 +40,14 @@ pub with_reading-month_first-requires : goal.with_reading-month_first-requires
 unfolding ascending
 with_reading-month_first-requires c =
     let y = years c.args.text.now c.shaped_long.ensures c.if-not-shaped_long.false c.year_in-y.ensures in
-    (room_for c.nothing.ensures tt (omega arith), y.0, y.1)
+    (room_for c.none.ensures tt (omega arith), y.0, y.1)
 
 -- the days of the dates taken
-first : (y a b : ℕ) {f g : Found} → Holds [] f → Holds (with_real (date y a b) (held f)) g → Holds (days_of (date y a b ∷ [])) g
+first : (y a b : ℕ) {f g : Days} → Holds [] f → Holds (with_real (date y a b) (held f)) g → Holds (days_of (date y a b ∷ [])) g
 unfolding days_of
 first y a b h k = rw (held_is h) at k
 
-both : (text : List ℕ) {y a b : ℕ} {f g : Found}
+both : (text : List ℕ) {y a b : ℕ} {f g : Days}
     → (length text ≡ short_length → ⊥)
     → y ≡ year_in text
     → a ≡ pair_at text 0
@@ -61,16 +61,14 @@ both text n i j k h l = rw (shown-long _ n, ← i, ← j, ← k) (rw (held_is h)
 pub with_reading-requires : goal.with_reading-requires
 with_reading-requires c =
     let y = years c.args.text.now c.shaped_long.ensures c.if-not-shaped_long.false c.year_in-y.ensures in
-    let h = first _ _ _ c.nothing.ensures c.with_reading-month_first.ensures in
+    let h = first _ _ _ c.none.ensures c.with_reading-month_first.ensures in
     (room_after _ h (omega arith), y.0, y.1)
 
-pub answered-requires : goal.answered-requires
-answered-requires c =
-    let h = first _ _ _ c.nothing.ensures c.with_reading-month_first.ensures in
-    holds-held (both _ c.requires c.year_in-y.ensures c.pair_at-a.ensures c.pair_at-b.ensures h c.with_reading.ensures)
+pub answer-requires : goal.answer-requires
+answer-requires c = holds-held c.with_reading.ensures
 
 pub returns : goal.returns
 returns c =
-    let h = first _ _ _ c.nothing.ensures c.with_reading-month_first.ensures in
+    let h = first _ _ _ c.none.ensures c.with_reading-month_first.ensures in
     let all = both c.args.text.now c.requires c.year_in-y.ensures c.pair_at-a.ensures c.pair_at-b.ensures h c.with_reading.ensures in
-    reads_shaped separator _ _ (rw (shaped_as_long _ separator c.requires) (passed c.shaped_long.ensures c.if-not-shaped_long.false)) (rw (held_is all) at c.answered.ensures)
+    reads_shaped separator _ _ (rw (shaped_as_long _ separator c.requires) (passed c.shaped_long.ensures c.if-not-shaped_long.false)) (rw (held_is all) at c.answer.ensures)

@@ -1,15 +1,11 @@
-use native.Mathlib.Omega.{arith}
-use Rattle.settle.proofs.Emptiness.{none_start, none_more, cell_none, cell_some}
+-- `nothing_left` meets its contract: each word of the cell was found 0, or one was not.
+use Rattle.std.proofs.Common.{rules, ◌≡◌, tests}
+use Rattle.std.proofs.lemmas.Iterator.{cases_from_all, YieldsList-from_slice}
+use Rattle.settle.proofs.Emptiness.{cell_told}
 use Rattle.settle.proofs.nothing_left.Goals as goal
 
-pub loop-a-init : goal.loop-a-init
-loop-a-init c = none_start _
-
-pub returns-then-rows-a-ne0 : goal.returns-then-rows-a-ne0
-returns-then-rows-a-ne0 c = cell_some c.cell-rows.ensures c.loop-a.a c.loop-a-test.true (omega arith) c.if-rows-a-ne0.true
-
-pub loop-a-preserved : goal.loop-a-preserved
-loop-a-preserved c = none_more c.loop-a.invariant c.loop-a-test.true c.if-rows-a-ne0.false
-
 pub returns : goal.returns
-returns c = cell_none c.cell-rows.ensures c.loop-a.invariant c.loop-a-test.false
+returns c =
+    cell_told c.cell.ensures (λ p. search rules) _
+    (cases_from_all _ _ _ (λ w. w ≡ 0) (λ w. w ≡ 0 → ⊥) c.all.ensures.ran (YieldsList-from_slice c.cell.result.now cc)
+    (λ x q k. search (rules, tests)) (λ x q k. search (rules, tests)))

@@ -4,9 +4,6 @@ use Rattle.table.specs.Layout.{table_length}
 use Rattle.sheet.proofs.Ruling.{fields_at_end, fields-written, sizes-good, rules_start}
 use Rattle.sheet.proofs.write.Goals as goal
 
-pub write_fields-at-requires : goal.write_fields-at-requires
-write_fields-at-requires c = (c.requires.0, c.requires.1)
-
 pub open_table-requires : goal.open_table-requires
 open_table-requires c = (sizes-good (fields_at_end c.requires.0 c.write_fields-at.ensures), c.requires.2 ∙ ap table_length (sym (c.write_fields-at.ensures.all_sizes ∙ c.requires.0.count)))
 

@@ -2,21 +2,12 @@
 use mathlib.Core.Path.{sym, ap, ◌∙◌}
 use Prim.Native.Nat.{ℕ}
 use native.Mathlib.Nat.{pos_of_ne-zero}
-use native.Mathlib.Omega.{arith}
 use Rattle.words.specs.Word.{pack, spanned}
-use Rattle.words.specs.EndLaws.{leading_highest, trailing_lt}
 use Rattle.words.proofs.Spans.{span_none, span_pack}
 use Rattle.words.proofs.span.Goals as goal
 
 pub returns-then-w-eq0 : goal.returns-then-w-eq0
 returns-then-w-eq0 c = span_none ∙ ap (λ (x : ℕ). pack 32 (spanned x)) (sym c.if-w-eq0.true)
-
-pub overflow_shr-result : goal.overflow_shr-result
-overflow_shr-result c =
-    omega (arith, (leading_highest 32 c.args.w (pos_of_ne-zero c.if-w-eq0.false) c.ranges.w.fits).counted)
-
-pub overflow_shl-result : goal.overflow_shl-result
-overflow_shl-result c = trailing_lt 32 c.args.w (pos_of_ne-zero c.if-w-eq0.false) c.ranges.w.fits
 
 pub returns : goal.returns
 returns c = span_pack c.args.w (pos_of_ne-zero c.if-w-eq0.false) c.ranges.w.fits

@@ -1,7 +1,6 @@
-use mathlib.Core.Path.{refl, ap, ap₂, ◌∙◌}
+use mathlib.Core.Path.{refl, ap₂}
 use Prim.Native.Nat.{ℕ, ◌+◌, ◌≤◌}
 use native.Mathlib.Omega.{arith}
-use native.Mathlib.Nat.{le_antisymm}
 use native.Mathlib.Numerals.{add-one}
 use Rattle.theory.specs.Bound.{sum}
 use Rattle.theory.specs.BoundLaws.{sum_last, sum_most}
@@ -15,7 +14,7 @@ few y k h = omega (arith, sum_most k 31 (month_length y) (λ i l. month_most y i
 
 pub loop-k-init : goal.loop-k-init
 unfolding sum month_length months
-loop-k-init c = (omega arith, refl)
+loop-k-init c = refl
 
 pub overflow_add-days : goal.overflow_add-days
 overflow_add-days c =
@@ -24,9 +23,4 @@ overflow_add-days c =
     omega (arith, few y k (omega arith), month_most y k, c.month_length-days.ensures)
 
 pub loop-k-preserved : goal.loop-k-preserved
-loop-k-preserved c = (omega arith, rw (add-one, sum_last) (ap₂ ◌+◌ c.loop-k.invariant.1 c.month_length-days.ensures))
-
-pub returns : goal.returns
-returns c =
-    let l = c.loop-k in
-    l.invariant.1 ∙ ap (λ (k : ℕ). sum k (month_length c.args.y)) (le_antisymm l.invariant.0 c.loop-k-test.false)
+loop-k-preserved c = rw (add-one, sum_last) (ap₂ ◌+◌ c.loop-k.invariant c.month_length-days.ensures)

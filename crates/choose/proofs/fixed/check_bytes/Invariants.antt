@@ -1,5 +1,4 @@
 -- `check_bytes` meets its contract: no byte passed is bad.
-use Prim.Native.Nat.{◌-◌}
 use lib.ListN.{length}
 use Rattle.table.proofs.Search.{Passed}
 use Rattle.choose.specs.Choosing.{bad_fixed}
@@ -7,6 +6,3 @@ use Rattle.choose.proofs.fixed.check_bytes.Given as goal
 
 abbrev pub invariant-loop-f : goal.invariant-loop-f
 invariant-loop-f l = Passed (length l.sizes) (bad_fixed l.sizes l.fixed) l.f
-
-abbrev pub decreases-loop-f : goal.decreases-loop-f
-decreases-loop-f l = length l.sizes - l.f

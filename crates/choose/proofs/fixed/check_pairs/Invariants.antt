@@ -1,5 +1,4 @@
 -- `check_pairs` meets its contract: no field passed clashes with any.
-use Prim.Native.Nat.{◌-◌}
 use Rattle.theory.specs.Bound.{any}
 use Rattle.theory.specs.Choice.{clash}
 use Rattle.table.specs.Layout.{rel}
@@ -9,6 +8,3 @@ use Rattle.choose.proofs.fixed.check_pairs.Given as goal
 
 abbrev pub invariant-loop-i : goal.invariant-loop-i
 invariant-loop-i l = Passed l.n (λ k. any l.n (clash (rel l.n l.table) (choice_of l.fixed) k)) l.i
-
-abbrev pub decreases-loop-i : goal.decreases-loop-i
-decreases-loop-i l = l.n - l.i

@@ -1,5 +1,5 @@
 -- `clash_of` meets its contract: no field passed clashes with i, and those before i are not asked.
-use Prim.Native.Nat.{◌-◌, ◌≤◌}
+use Prim.Native.Nat.{◌≤◌}
 use Rattle.theory.specs.Choice.{clash}
 use Rattle.table.specs.Layout.{rel}
 use Rattle.table.proofs.Search.{Passed}
@@ -8,6 +8,3 @@ use Rattle.choose.proofs.fixed.clash_of.Given as goal
 
 abbrev pub invariant-loop-j : goal.invariant-loop-j
 invariant-loop-j l = (l.i ≤ l.j) × Passed l.n (clash (rel l.n l.table) (choice_of l.fixed) l.i) l.j
-
-abbrev pub decreases-loop-j : goal.decreases-loop-j
-decreases-loop-j l = l.n - l.j

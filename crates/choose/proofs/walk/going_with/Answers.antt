@@ -1,15 +1,10 @@
 -- `going_with` meets its contract: a free choice takes nothing away, a reading all that is not in its row.
-use borrow.Author.Tests.{ne_eqb}
+use Rattle.std.proofs.Common.{ne_eqb}
 use Rattle.choose.proofs.Fitting.{ne_free, with_free, with_reading}
 use Rattle.choose.proofs.walk.going_with.Goals as goal
 
 pub returns-then-v-eq-FREE : goal.returns-then-v-eq-FREE
 returns-then-v-eq-FREE c = with_free _ _ _ _ _ _ c.ranges.w.fits c.if-v-eq-FREE.true
-
-pub row_word-requires : goal.row_word-requires
-row_word-requires c =
-    let p = c.requires in
-    (p.0, p.1, p.2, p.3 (ne_free _ c.if-v-eq-FREE.false))
 
 pub returns : goal.returns
 returns c =

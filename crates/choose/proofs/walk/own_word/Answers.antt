@@ -2,8 +2,5 @@
 use Rattle.choose.proofs.Fitting.{own_is}
 use Rattle.choose.proofs.walk.own_word.Goals as goal
 
-pub narrowed-requires : goal.narrowed-requires
-narrowed-requires c = c.cell.ensures.long
-
 pub returns : goal.returns
 returns c = own_is _ _ _ _ _ _ c.below-all.ensures c.cell.ensures.words c.narrowed.ensures

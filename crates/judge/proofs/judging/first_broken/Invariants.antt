@@ -1,28 +1,15 @@
 -- `first_broken` meets its contract: at each level of the search no row passed is broken.
-use Prim.Native.Nat.{◌-◌}
-use Rattle.judge.proofs.Gaps.{Readings, Columns, Fields}
+use Rattle.std.proofs.Common.{◌+◌, ◌*◌, length}
+use Rattle.theory.specs.Limits.{readings_most}
+use Rattle.table.specs.Layout.{row_number}
+use Rattle.judge.proofs.Gaps.{NoneBroken}
 use Rattle.judge.proofs.judging.first_broken.Given as goal
 
 abbrev pub invariant-loop-a : goal.invariant-loop-a
-invariant-loop-a l = Readings l.sizes l.table l.i l.j l.a
-
-abbrev pub decreases-loop-a : goal.decreases-loop-a
-decreases-loop-a l = 32 - l.a
+invariant-loop-a l = NoneBroken l.sizes l.table (row_number (length l.sizes) l.i l.j l.a)
 
 abbrev pub invariant-loop-j : goal.invariant-loop-j
-invariant-loop-j l = Columns l.sizes l.table l.i l.j
-
-abbrev pub decreases-loop-j : goal.decreases-loop-j
-decreases-loop-j l = l.n - l.j
+invariant-loop-j l = NoneBroken l.sizes l.table ((l.i * length l.sizes + l.j) * readings_most)
 
 abbrev pub invariant-loop-i : goal.invariant-loop-i
-invariant-loop-i l = Fields l.sizes l.table l.i
-
-abbrev pub decreases-loop-i : goal.decreases-loop-i
-decreases-loop-i l = l.n - l.i
-
-abbrev pub invariant-search : goal.invariant-search
-invariant-search l = Unit {0}
-
-abbrev pub decreases-search : goal.decreases-search
-decreases-search l = 0
+invariant-loop-i l = NoneBroken l.sizes l.table (l.i * length l.sizes * readings_most)

@@ -1,15 +1,15 @@
-use native.Mathlib.Omega.{arith}
-use Rattle.judge.proofs.Counts.{counted_none, counted-small, counted_more, counted-all}
+use Rattle.std.proofs.Common.{◌≡◌, ◌<◌, ◌^◌, ◌∙◌, rules}
+use Rattle.std.specs.List.{sum_by}
+use Rattle.std.proofs.iter.runs.Made.{chains}
+use Rattle.theory.specs.Bound.{count}
+use Rattle.words.specs.Word.{bit}
+use Rattle.judge.proofs.Counts.{ones-rows, ones-small}
 use Rattle.judge.proofs.keeping.ones_in.Goals as goal
 
-pub loop-a-init : goal.loop-a-init
-loop-a-init c = counted_none _
-
-pub overflow_add-ones : goal.overflow_add-ones
-overflow_add-ones c = omega (arith, counted-small (counted_more c.loop-a.invariant c.loop-a-test.true c.ones-ones.ensures))
-
-pub loop-a-preserved : goal.loop-a-preserved
-loop-a-preserved c = counted_more c.loop-a.invariant c.loop-a-test.true c.ones-ones.ensures
+pub sum-requires-clause-fits : goal.sum-requires-clause-fits
+sum-requires-clause-fits c =
+    let h : sum_by (λ w. count 32 (bit w)) c.args.cell.now < 2 ^ 32 = ones-small c.args.cell.now c.requires in search (rules, chains)
 
 pub returns : goal.returns
-returns c = counted-all c.loop-a.invariant c.loop-a-test.false
+returns c =
+    let e : c.sum.result ≡ sum_by (λ w. count 32 (bit w)) c.args.cell.now = search (rules, chains) in e ∙ ones-rows c.args.cell.now c.requires

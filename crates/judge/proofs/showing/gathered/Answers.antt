@@ -1,11 +1,10 @@
-use Rattle.judge.proofs.Zeros.{gathered_none, gathered_more, gathered_all}
+use Rattle.std.proofs.Common.{◌≡◌, ◌∙◌, ap, rules, bit_or, eqb}
+use Rattle.std.specs.List.{fold}
+use Rattle.std.proofs.iter.runs.Made.{chains}
+use Rattle.judge.proofs.Zeros.{gathered_all}
 use Rattle.judge.proofs.showing.gathered.Goals as goal
 
-pub loop-a-init : goal.loop-a-init
-loop-a-init c = gathered_none _
-
-pub loop-a-preserved : goal.loop-a-preserved
-loop-a-preserved c = gathered_more c.loop-a.invariant c.loop-a-test.true
-
 pub returns : goal.returns
-returns c = gathered_all c.loop-a.invariant c.loop-a-test.false
+returns c =
+    let e : c.fold.result ≡ fold bit_or 0 c.args.rows.now = search (rules, chains) in
+    ap (λ w. eqb w 0) e ∙ gathered_all c.args.rows.now

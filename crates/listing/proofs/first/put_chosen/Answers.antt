@@ -1,22 +1,11 @@
--- `first::put_chosen` meets its contract: what was found at the front are the days of the answer.
-use mathlib.Core.List.{List, ◌++◌}
-use mathlib.Core.Path.{sym, ap}
-use Prim.Native.Nat.{ℕ}
-use Rattle.text.specs.WritingLaws.{wrote_length, wrote_within, wrote_taken, wrote_as, room_as}
-use Rattle.text.specs.Text.{ascii, numbers, line_feed}
+-- `first::put_chosen` meets its contract: the word is put, then the days of the answer, then a line feed.
+use Rattle.text.specs.WritingLaws.{room_after}
+use Rattle.text.specs.PutsLaws.{puts_then}
+use Rattle.text.specs.Text.{line_feed}
 use Rattle.listing.proofs.first.put_chosen.Goals as goal
 
-pub chosen_days-count-requires : goal.chosen_days-count-requires
-chosen_days-count-requires c = (c.requires.0, c.requires.1)
-
-pub slice_bounds-found-end : goal.slice_bounds-found-end
-slice_bounds-found-end c = wrote_within c.chosen_days-count.ensures
-
-pub put_line-requires : goal.put_line-requires
-put_line-requires c = room_as (ap (λ (l : List ℕ). ascii "first" ++ numbers l ++ line_feed) (sym (wrote_taken c.chosen_days-count.ensures))) c.requires.2
-
-pub shape_of-out : goal.shape_of-out
-shape_of-out c = wrote_length c.put_line.ensures
+pub put_byte-requires : goal.put_byte-requires
+put_byte-requires c = room_after line_feed (puts_then c.put_bytes.ensures c.put_days.ensures).wrote c.requires.1
 
 pub returns : goal.returns
-returns c = wrote_as (ap (λ (l : List ℕ). ascii "first" ++ numbers l ++ line_feed) (wrote_taken c.chosen_days-count.ensures)) c.put_line.ensures
+returns c = puts_then (puts_then c.put_bytes.ensures c.put_days.ensures) c.put_byte.ensures

@@ -1,17 +1,12 @@
--- The numbers written over the first zeros are followed by the rest of them.
-use native.Mathlib.Omega.{arith}
+use Rattle.std.proofs.Common.{◌≡◌, ◌∙◌, arith}
 use Rattle.theory.specs.Limits.{readings_most}
-use Rattle.scan.proofs.Days.{length-zeros, padded_over}
+use Rattle.scan.proofs.Days.{listing_more, listed_all}
 use Rattle.scan.proofs.field.listed.Goals as goal
 
-pub slice_bounds-days-end : goal.slice_bounds-days-end
-slice_bounds-days-end c = omega arith
-
-pub slice_bounds-numbers_into-end : goal.slice_bounds-numbers_into-end
-slice_bounds-numbers_into-end c = length-zeros _ readings_most (omega arith)
-
-pub numbers_into-requires : goal.numbers_into-requires
-numbers_into-requires c = omega (arith, length-zeros c.args.count readings_most (omega arith))
+pub loop-k-preserved : goal.loop-k-preserved
+loop-k-preserved c = listing_more readings_most _ _ _ _ _ (omega arith) (omega arith) c.number_at.ensures c.loop-k.invariant
 
 pub returns : goal.returns
-returns c = padded_over _ readings_most _ _ (omega arith) c.numbers_into.ensures
+returns c =
+    let k : c.loop-k.k ≡ c.args.count = omega arith in
+    c.loop-k.invariant ∙ rw k (listed_all readings_most c.args.count _)

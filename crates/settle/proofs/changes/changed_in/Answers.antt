@@ -1,19 +1,11 @@
-use borrow.Author.Rules.{rules}
-use Rattle.table.proofs.Search.{passed_none, passed_one, found, passed-all}
-use Rattle.settle.proofs.Changing.{changed_below, row_changed, row_same}
+-- `changed_in` meets its contract: a row of the cell would change exactly when it loses a bit.
+use Rattle.std.proofs.Common.{rules, refl}
+use Rattle.table.proofs.Search.{some_first_from_find}
+use Rattle.settle.proofs.Changing.{changed_below, row_changed}
 use Rattle.settle.proofs.changes.changed_in.Goals as goal
 
 pub returns-then-j-i : goal.returns-then-j-i
 returns-then-j-i c = changed_below _ _ _ _ c.if-j-i.true
 
-pub loop-a-init : goal.loop-a-init
-loop-a-init c = passed_none _ _
-
-pub returns-then-lost_bits-ne0 : goal.returns-then-lost_bits-ne0
-returns-then-lost_bits-ne0 c = found c.loop-a.invariant (search rules) (row_changed _ _ _ _ _ _ (search rules) c.lost_bits.ensures c.if-lost_bits-ne0.true)
-
-pub loop-a-preserved : goal.loop-a-preserved
-loop-a-preserved c = passed_one c.loop-a.invariant (search rules) (row_same _ _ _ _ _ _ c.lost_bits.ensures c.if-lost_bits-ne0.false)
-
 pub returns : goal.returns
-returns c = passed-all c.loop-a.invariant c.loop-a-test.false
+returns c = some_first_from_find _ _ _ _ _ _ c.find.ensures.ran refl (λ a b q k. (search rules, λ l. search (rules, row_changed)))

@@ -1,11 +1,9 @@
 -- `round_into` meets its contract: out starts as a copy, and the cells of the fields below i are done.
-use Prim.Native.Nat.{◌-◌}
+use Rattle.table.specs.Layout.{rel}
 use Rattle.table.specs.LayoutLaws.{Fit}
-use Rattle.settle.proofs.Parts.{Going, OfFields}
+use Rattle.settle.specs.Round.{OfField, Done}
+use Rattle.settle.proofs.Parts.{Passed}
 use Rattle.settle.proofs.round.round_into.Given as goal
 
 abbrev pub invariant-loop-i : goal.invariant-loop-i
-invariant-loop-i l = Going l.n l.t l.t (OfFields l.i) l.n l.i l.out l.fields × Fit l.out
-
-abbrev pub decreases-loop-i : goal.decreases-loop-i
-decreases-loop-i l = l.n - l.i
+invariant-loop-i l = record { done : Done l.n (rel l.n l.t) (Passed OfField 0 l.i) (rel l.n l.t) (rel l.n l.out) l.fields; fit : Fit l.out }

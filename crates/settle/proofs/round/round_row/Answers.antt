@@ -6,18 +6,13 @@ use Rattle.settle.proofs.round.round_row.Goals as goal
 pub loop-k-init : goal.loop-k-init
 loop-k-init c = kept-start _ _ _ _ _ _ (search rules) (omega arith) c.row_word-w.ensures
 
-pub narrowed-w-requires : goal.narrowed-w-requires
-narrowed-w-requires c = c.cell.ensures.long
-
 pub loop-k-preserved : goal.loop-k-preserved
 loop-k-preserved c =
     kept_more _ _ _ _ _ _ _ _ _ _ (search rules) c.loop-k.invariant (search rules)
     c.row_word.ensures c.cell.ensures.words c.narrowed-w.ensures
 
-pub returns-else-w-ne0 : goal.returns-else-w-ne0
-returns-else-w-ne0 c =
-    let w = c.loop-k.w in
-    kept_none _ _ _ _ _ _ w c.loop-k.invariant c.if-w-ne0.false
+pub returns-then-w-eq0 : goal.returns-then-w-eq0
+returns-then-w-eq0 c = kept_none _ _ _ _ _ _ _ c.loop-k.invariant c.if-w-eq0.true
 
 pub returns-after-loop-k : goal.returns-after-loop-k
 returns-after-loop-k c = kept_end _ _ _ _ _ _ _ c.loop-k.invariant (search rules)

@@ -1,27 +1,13 @@
 use mathlib.Core.Path.{◌∙◌}
-use Prim.Native.Nat.{◌-◌}
-use native.Mathlib.Omega.{arith}
-use lib.Bits.{and_le_r}
 use native.Mathlib.Nat.{pos_of_ne-zero}
-use Rattle.settle.proofs.Striking.{striking_start, striking_more, striking_end, low_small, pair_struck}
+use Rattle.settle.proofs.Striking.{striking_more, striking_end, low_small, pair_struck}
 use Rattle.settle.proofs.round.strike_bits.Goals as goal
-
-pub loop-rest-init : goal.loop-rest-init
-loop-rest-init c = striking_start _ _ _ _ _ _ c.ranges.lost.fits
 
 pub strike-requires : goal.strike-requires
 strike-requires c =
     let l = c.loop-rest in
     let p = c.requires in
     (record { few = p.0.few; long = l.invariant.long ∙ p.0.long }, p.1, p.2, p.3, low_small l.rest c.lowest.ensures (pos_of_ne-zero c.loop-rest-test.true) l.invariant.small)
-
-pub overflow_sub-rest : goal.overflow_sub-rest
-overflow_sub-rest c = pos_of_ne-zero c.loop-rest-test.true
-
-pub loop-rest-smaller : goal.loop-rest-smaller
-loop-rest-smaller c =
-    let rest = c.loop-rest.rest in
-    omega (arith, and_le_r rest (rest - 1), pos_of_ne-zero c.loop-rest-test.true)
 
 pub loop-rest-preserved : goal.loop-rest-preserved
 loop-rest-preserved c =

@@ -1,10 +1,8 @@
--- `run` meets its contract: the table holds the state after r rounds, none of which was idle; scratch takes the odd ones.
-use Prim.Native.Nat.{◌-◌}
+-- `run` meets its contract: the table holds the state after r rounds where r is even, and scratch where it is odd; the other one
+-- holds the state before, and no round so far was idle.
+use Rattle.table.specs.Layout.{rel}
 use Rattle.settle.proofs.Turns.{Running}
 use Rattle.settle.proofs.running.run.Given as goal
 
-abbrev pub invariant-loop-moved : goal.invariant-loop-moved
-invariant-loop-moved l = Running l.n l.initial.table l.initial.scratch l.budget l.r l.table l.scratch l.moved
-
-abbrev pub decreases-loop-moved : goal.decreases-loop-moved
-decreases-loop-moved l = l.budget - l.r
+abbrev pub invariant-loop-r : goal.invariant-loop-r
+invariant-loop-r l = Running l.n (rel l.n l.initial.table) l.r l.table l.scratch l.moved

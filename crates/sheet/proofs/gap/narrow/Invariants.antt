@@ -1,10 +1,5 @@
-use Prim.Native.Nat.{◌-◌}
-use lib.ListN.{length}
 use Rattle.sheet.proofs.Narrowing.{Narrows}
 use Rattle.sheet.proofs.gap.narrow.Given as goal
 
 abbrev pub invariant-loop-a : goal.invariant-loop-a
 invariant-loop-a l = Narrows l.first l.second l.lo l.hi l.initial.cell l.cell l.a l.from l.to
-
-abbrev pub decreases-loop-a : goal.decreases-loop-a
-decreases-loop-a l = length l.first - l.a

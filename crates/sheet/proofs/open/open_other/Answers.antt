@@ -1,5 +1,7 @@
-use Rattle.sheet.proofs.Cells.{both-filled}
+use mathlib.Core.Path.{◌∙◌}
+use native.Mathlib.Omega.{arith}
+use Rattle.scan.specs.FillLaws.{filled-all}
 use Rattle.sheet.proofs.open.open_other.Goals as goal
 
 pub returns : goal.returns
-returns c = both-filled _ _ _ c.requires.0 c.requires.1 c.fill.ensures c.fill-2.ensures
+returns c = filled-all c.loop-a.invariant (omega arith) ∙ rw c.requires

@@ -1,11 +1,6 @@
-use Prim.Native.Nat.{◌-◌}
-use lib.ListN.{length}
 use Rattle.scan.specs.FillLaws.{Filled}
 use Rattle.sheet.specs.Writing.{own_row}
 use Rattle.sheet.proofs.open.open_own.Given as goal
 
 abbrev pub invariant-loop-a : goal.invariant-loop-a
 invariant-loop-a l = Filled (own_row l.rows l.mask) l.initial.cell l.cell l.a
-
-abbrev pub decreases-loop-a : goal.decreases-loop-a
-decreases-loop-a l = length l.initial.cell - l.a

@@ -1,15 +1,8 @@
-use Rattle.table.proofs.Search.{passed_none, passed_one, found, passed-all}
-use Rattle.table.proofs.Faults.{hit, miss, diagonal_at}
+-- `diagonal_in` meets its contract: the row is tested as the definition tests it.
+use Rattle.std.proofs.Common.{rules, refl}
+use Rattle.table.proofs.Search.{some_first_from_find}
+use Rattle.table.proofs.Faults.{diagonal_at}
 use Rattle.table.proofs.shaping.diagonal_in.Goals as goal
 
-pub loop-a-init : goal.loop-a-init
-loop-a-init c = passed_none _ _
-
-pub returns-then-outside : goal.returns-then-outside
-returns-then-outside c = found c.loop-a.invariant c.loop-a-test.true (hit (diagonal_at _ _ c.with_bit.ensures c.outside.ensures) c.if-outside.true)
-
-pub loop-a-preserved : goal.loop-a-preserved
-loop-a-preserved c = passed_one c.loop-a.invariant c.loop-a-test.true (miss (diagonal_at _ _ c.with_bit.ensures c.outside.ensures) c.if-outside.false)
-
 pub returns : goal.returns
-returns c = passed-all c.loop-a.invariant c.loop-a-test.false
+returns c = some_first_from_find _ _ _ _ _ _ c.find.ensures.ran refl (λ a b q k. (search rules, λ l. search (rules, diagonal_at)))

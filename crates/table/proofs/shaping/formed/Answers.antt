@@ -1,19 +1,24 @@
 -- `formed` meets its contract: the checks 4, 5 and 6 one after the other.
-use native.Mathlib.Omega.{arith}
+use Rattle.std.proofs.Common.{rules}
 use Rattle.table.proofs.Says.{rows_stray, rows_diagonal, rows_mirror, rows-good}
 use Rattle.table.proofs.shaping.formed.Goals as goal
 
-pub returns-then-stray-table : goal.returns-then-stray-table
-returns-then-stray-table c = rows_stray _ _ _ _ c.first_stray-stray.ensures (omega arith) c.row_at-at.ensures
+pub returns-in-Some : goal.returns-in-Some
+returns-in-Some c = rows_stray _ _ _ _ (c.first_row.ensures _ (λ i j r hi hj k. search rules)) c.in-Some.is
 
-pub returns-then-diagonal-table : goal.returns-then-diagonal-table
-returns-then-diagonal-table c =
-    rows_diagonal _ _ _ _ c.first_stray-stray.ensures (omega (arith, c.if-stray-table.false)) c.first_diagonal-diagonal.ensures (omega arith) c.row_at-at-then-diagonal-table.ensures
+pub returns-in-Some-first_row : goal.returns-in-Some-first_row
+returns-in-Some-first_row c =
+    rows_diagonal _ _ _ _ (c.first_row.ensures _ (λ i j r hi hj k. search rules)) c.in_default.is
+    (c.first_row-2.ensures _ (λ i j r hi hj k. search rules)) c.in-Some-first_row.is
 
-pub returns-then-mirror-table : goal.returns-then-mirror-table
-returns-then-mirror-table c =
-    rows_mirror _ _ _ _ c.first_stray-stray.ensures (omega arith) c.first_diagonal-diagonal.ensures (omega arith) c.first_mirror-mirror.ensures (omega arith) c.row_at-at-then-mirror-table.ensures
+pub returns-in-Some-first_row-2 : goal.returns-in-Some-first_row-2
+returns-in-Some-first_row-2 c =
+    rows_mirror _ _ _ _ (c.first_row.ensures _ (λ i j r hi hj k. search rules)) c.in_default.is
+    (c.first_row-2.ensures _ (λ i j r hi hj k. search rules)) c.in_default-first_row.is
+    (c.first_row-3.ensures _ (λ i j r hi hj k. search rules)) c.in-Some-first_row-2.is
 
 pub returns : goal.returns
 returns c =
-    rows-good _ _ _ _ c.first_stray-stray.ensures (omega arith) c.first_diagonal-diagonal.ensures (omega arith) c.first_mirror-mirror.ensures (omega arith)
+    rows-good _ _ _ _ (c.first_row.ensures _ (λ i j r hi hj k. search rules)) c.in_default.is
+    (c.first_row-2.ensures _ (λ i j r hi hj k. search rules)) c.in_default-first_row.is
+    (c.first_row-3.ensures _ (λ i j r hi hj k. search rules)) c.in_default-first_row-2.is

@@ -3,7 +3,7 @@ use Rattle.std.proofs.Common.{◌≡◌, ◌-◌, ◌≤◌, length}
 use Rattle.vectors.proofs.file.read_full.Given as goal
 
 abbrev pub invariant-loop-n : goal.invariant-loop-n
-invariant-loop-n g l = (length l.space ≡ length l.initial.space) × (l.most ≡ length l.initial.space) × (l.n ≤ l.most)
+invariant-loop-n g l = (length l.space ≡ length l.initial.space) × (l.n ≤ length l.space)
 
 abbrev pub decreases-loop-n : goal.decreases-loop-n
-decreases-loop-n g l = l.most - l.n
+decreases-loop-n g l = length l.initial.space - l.n

@@ -1,9 +1,0 @@
--- `fill` is safe and ends.
-use Rattle.std.proofs.Common.{◌≡◌, ◌-◌, ◌≤◌, length}
-use Rattle.driver.proofs.making.fill.Given as goal
-
-abbrev pub invariant-loop-p : goal.invariant-loop-p
-invariant-loop-p l = (l.p ≤ length l.table) × (length l.table ≡ length l.initial.table)
-
-abbrev pub decreases-loop-p : goal.decreases-loop-p
-decreases-loop-p l = length l.table - l.p

@@ -1,9 +1,0 @@
--- `summed` is safe and ends.
-use Rattle.std.proofs.Common.{◌-◌, ◌≤◌, length}
-use Rattle.sheets.proofs.lent.summed.Given as goal
-
-abbrev pub invariant-loop-p : goal.invariant-loop-p
-invariant-loop-p l = l.p ≤ length l.words
-
-abbrev pub decreases-loop-p : goal.decreases-loop-p
-decreases-loop-p l = length l.words - l.p

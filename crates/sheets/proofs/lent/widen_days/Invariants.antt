@@ -1,9 +1,0 @@
--- `widen_days` is safe and ends.
-use Rattle.std.proofs.Common.{◌≡◌, ◌-◌, ◌≤◌, length}
-use Rattle.sheets.proofs.lent.widen_days.Given as goal
-
-abbrev pub invariant-loop-p : goal.invariant-loop-p
-invariant-loop-p l = (l.p ≤ l.n) × (l.n ≤ length l.days) × (l.n ≤ length l.wide) × (length l.wide ≡ length l.initial.wide)
-
-abbrev pub decreases-loop-p : goal.decreases-loop-p
-decreases-loop-p l = l.n - l.p

@@ -1,9 +1,0 @@
--- `put_again` is safe and ends.
-use Rattle.std.proofs.Common.{◌≡◌, ◌-◌, ◌≤◌, length}
-use Rattle.sheets.proofs.records.put_again.Given as goal
-
-abbrev pub invariant-loop-i : goal.invariant-loop-i
-invariant-loop-i l = (l.next ≤ length l.space) × (length l.space ≡ length l.initial.space)
-
-abbrev pub decreases-loop-i : goal.decreases-loop-i
-decreases-loop-i l = l.to - l.i
