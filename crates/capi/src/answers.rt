@@ -55,7 +55,7 @@ impl Packs for usize {
     }
 }
 
-// The readings that a field keeps.
+// The readings that a field keeps. C is given both kinds of number, and an impl over both would take a trait of its own.
 impl Packs for u32 {
     ghost said = { λ n. says 0 (n ∷ []) };
 

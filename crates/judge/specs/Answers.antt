@@ -14,6 +14,7 @@ abbrev pub said_row : Option Row → Said
 said_row None = says 0 []
 said_row (Some r) = says 0 (r.i ∷ r.j ∷ r.a ∷ [])
 
+-- that, or the refusal
 abbrev pub said_rows : Result (Option Row) Refusal → Said
 said_rows = said_by said_row
 
@@ -22,5 +23,6 @@ abbrev pub said_place : Shown → Said
 said_place (Shown.Settled at) = says 0 (0 ∷ at ∷ [])
 said_place (Shown.Opening at) = says 0 (1 ∷ at ∷ [])
 
+-- that, or the refusal
 abbrev pub said_shown : Result Shown Refusal → Said
 said_shown = said_by said_place

@@ -36,6 +36,7 @@ abbrev pub said_settled : Option Settled → Said
 said_settled (Some x) = says 0 (x.rounds ∷ val x.empty ∷ [])
 said_settled None = says 0 []
 
+-- that, or the refusal
 abbrev pub said_settling : Settling → Said
 said_settling = said_by said_settled
 

@@ -13,7 +13,7 @@ pub const LINE_MOST: usize = 75;
 // A refusal's line.
 pub type Line = Text<LINE_MOST>;
 
-// The line of a refusal.
+// The line of a refusal. A listing is made by the same five lines: a closure over the writer would take a longer contract.
 pub fn refusal_line(r: Refusal) -> Line
     ensures { Shows line_most (state_line (refused r)) result.bytes result.length }
 {
