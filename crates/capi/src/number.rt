@@ -12,14 +12,14 @@ fn byte(v: usize) -> u8
     (v % 256) as u8
 }
 
-// The lowest 16 bits.
+// The lowest 16 bits, cut for the same reason.
 fn half(v: usize) -> u16
     ensures { result ≡ v % 65536 }
 {
     (v % 65536) as u16
 }
 
-// The parts side by side, the lowest bits first.
+// The parts side by side, the lowest bits first, by sums as `joined` has them.
 #[tactic(auto, unfolding(crate::specs::Packed::joined))]
 fn join(state: u8, second: u8, x: u16, y: u16, z: u16) -> u64
     ensures { result ≡ joined state second x y z }

@@ -79,7 +79,7 @@ impl State {
         }
     }
 
-    // A line that asks something of a table as it is.
+    // A line that asks something of a table as it is, by functions that take different things.
     fn ask<P: Print>(&self, rt: &P, verb: Verb, args: &Args) -> io::Result<()> {
         let field = args.at(0).size();
         let other = args.at(1).size();

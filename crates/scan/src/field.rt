@@ -113,7 +113,7 @@ fn days_at(sheet: &[u8], at: usize) -> Result<FieldRead, Refusal>
     })
 }
 
-// The field that the record adds, whose mark is DT, DS or FD.
+// The field that the record adds, whose mark is DT, DS or FD: an enum says which, and the arms call functions that take different things.
 pub fn field_at(sheet: &[u8], at: usize, mark: Mark) -> Result<FieldRead, Refusal>
     requires { at ≤ length sheet.now }
     ensures { ReadsField (field_by separator mark sheet.now at) result }

@@ -94,6 +94,7 @@ pub fn judge_at(sheet: &[u8], at: usize, sizes: &[u8], late: bool) -> Result<Ver
         return Err(Refusal::Cut(at));
     }
     let mark = mark::mark_at(sheet, at);
+    // an enum says which, and the arms call functions that take different things
     match mark {
         Mark::Date | Mark::Short | Mark::Days => judge_field(sheet, at, mark, sizes, late),
         Mark::Gap => judge_gap(sheet, at, sizes),

@@ -32,7 +32,8 @@ fn apply_strike(sheet: &[u8], at: usize, sizes: &[u8], days: &[u16], table: &mut
     table::strike(table, sizes.len(), p.i, p.j, p.a, p.b);
 }
 
-// Each GP and PR from an offset on; a sheet that was judged has nothing else there but its EN.
+// Each GP and PR from an offset on; a sheet that was judged has nothing else there but its EN. An enum says which, and the arms call
+// functions that read different records.
 pub fn apply_rules(sheet: &[u8], from: usize, sizes: &[u8], days: &[u16], table: &mut [u32])
     requires { RulesTo sheet.now sizes.now days.now table.old from }
     ensures { table.new ≡ words (length sizes.now) (opening (fields sheet.now) (records sheet.now)) }

@@ -163,7 +163,7 @@ impl Lent {
         table::table_length(n).min(WORDS_ROOM)
     }
 
-    // A line that asks something of what was read.
+    // A line that asks something of what was read, by functions that take different things.
     pub fn ask<P: Print>(&self, rt: &P, verb: Verb, args: &Args) -> io::Result<()> {
         let sizes = &self.sizes[..self.set.fields.min(FIELDS_MOST)];
         let table = &self.table[..self.words()];
