@@ -1,5 +1,5 @@
 -- What the answer to a date text gives its record.
-use mathlib.Core.Path.{◌≡◌, refl}
+use mathlib.Core.Path.{◌≡◌, refl, ap}
 use mathlib.Core.Logic.{◌⊎◌, inl, inr}
 use mathlib.Core.Bool.{Bool}
 use mathlib.Core.List.{List, ◌++◌}
@@ -8,7 +8,7 @@ use native.Mathlib.Omega.{arith}
 use lib.ListN.{length, replicate}
 use Rattle.std.specs.Prelude.{Ok, Err}
 use Rattle.refusal.specs.declared.Refusal.{Refusal}
-use Rattle.refusal.specs.declared.Refusal.TheVariants.{Shapeless, Unreal}
+use Rattle.refusal.specs.Refusals.{number}
 use Rattle.theory.specs.Limits.{readings_most}
 use Rattle.calendar.specs.DateText.{dates_most, means}
 use Rattle.calendar.specs.DateTextLaws.{means_most}
@@ -24,5 +24,5 @@ date_days {sep} {text} {d} reads =
     let few = means_most sep text in
     (omega (arith, day.1, few), day.1, rw day.3 (padded-wide (means sep text) few))
 
-pub date_refused : {sep : ℕ → Bool} {text : List ℕ} {q : Refusal} → ReadsDate sep text (Err q) → (q ≡ Shapeless) ⊎ (q ≡ Unreal)
-date_refused {sep} {text} {q} reads = elim (reads_refused sep text (Err q) reads q refl) [ inl w ↦ inl w.1 | inr w ↦ inr w.2 ]
+pub date_refused : {sep : ℕ → Bool} {text : List ℕ} {q : Refusal} → ReadsDate sep text (Err q) → (number q ≡ 19) ⊎ (number q ≡ 20)
+date_refused {sep} {text} {q} reads = elim (reads_refused sep text (Err q) reads q refl) [ inl w ↦ inl (ap number w.1) | inr w ↦ inr (ap number w.2) ]

@@ -7,7 +7,6 @@ ghost use Rattle.calendar.specs.DateAnswers.{padded};
 ghost use Rattle.table.specs.Layout.{tabulate};
 ghost use Rattle.refusal.specs.Refusals.{number};
 ghost use Rattle.refusal.specs.Said.{says, refused};
-ghost use Rattle.refusal.specs.declared.Refusal.TheVariants.{Shapeless, Unreal};
 ghost use Rattle.scan.specs.Sheet.{number_at, early, date_at, days_at};
 ghost use Rattle.scan.specs.Judging.{field_by, ReadsField};
 
@@ -27,11 +26,11 @@ pub struct FieldRead {
 
 // A date text's refusal, with the place of its record.
 fn placed(r: Refusal, at: usize) -> Refusal
-    requires { (r ≡ Shapeless) ⊎ (r ≡ Unreal) }
+    requires { (number r ≡ 19) ⊎ (number r ≡ 20) }
     ensures { refused result ≡ says (number r) (at ∷ []) }
 {
     match r {
-        Refusal::Unreal => Refusal::UnrealAt(at),
+        Refusal::Unreal | Refusal::UnrealAt(_) => Refusal::UnrealAt(at),
         _ => Refusal::ShapelessAt(at),
     }
 }
