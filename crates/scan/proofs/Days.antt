@@ -1,21 +1,21 @@
 -- The loops over a field's days: days written before zeros, days that climb, days that are not over the last.
 use mathlib.Core.Path.{◌≡◌, refl, sym, ap, ap₂, ◌∙◌}
 use mathlib.Core.Bool.{Bool, true, false}
+use mathlib.Core.Logic.{◌⊎◌, inl, inr}
 use mathlib.Core.List.{List, [], ◌∷◌, ◌++◌, append_assoc}
 use Prim.Native.Nat.{ℕ, zero, suc, ◌+◌, ◌-◌, ◌≤◌, ◌<◌}
-use native.Mathlib.Nat.{sub-zero, zero-add, zero-sub, suc-sub-suc}
+use native.Mathlib.Nat.{le_refl, sub-zero, zero-add, zero-sub, suc-sub-suc}
 use native.Mathlib.Numerals.{add-one}
 use native.Mathlib.Omega.{arith}
-use lib.Dec.{T, leb, ltb}
+use lib.Dec.{T, leb, ltb, leb→le, le→leb}
 use lib.ListN.{length, get_or, set, take, drop, replicate, length-replicate, replicate-append-replicate}
-use Rattle.std.specs.List.{IsAllAdjacentAnswer, list_all}
+use Rattle.std.specs.List.{IsAllAdjacentAnswer}
 use Rattle.std.proofs.lemmas.List.Edits.{paste_more, paste_all}
-use Rattle.std.proofs.lemmas.List.Folds.{list_all_more}
 use Rattle.std.proofs.lemmas.Bool.Decides.{nat_tests}
-use lib.Seq.{paste, take_all, take_at}
+use lib.Seq.{paste, take_at}
 use Rattle.theory.specs.Limits.{readings_most}
 use Rattle.theory.specs.Bound.{all}
-use Rattle.theory.specs.BoundLaws.{and_i, T_ext}
+use Rattle.theory.specs.BoundLaws.{and_i, T_ext, all_i, all_e, lt_or_ge}
 use Rattle.calendar.specs.Calendar.{last_day}
 use Rattle.calendar.specs.Ascending.{ascending, rises_from}
 use Rattle.calendar.specs.AscendingLaws.{ascending_places}
@@ -68,15 +68,23 @@ ascending_by_steps [] true h = refl
 ascending_by_steps (x ∷ l) true h = T_ext true (rises_from x l) (λ t. climbs x l (λ k b. sym (rw add-one at (h k 0 (omega arith))))) (λ t. tt)
 ascending_by_steps days false h = T_ext false (ascending days) absurd (λ t. grind (arith, nat_tests, h.2 0, ascending_places days t h.0 (h.0 + 1) (omega arith) (omega (arith, h.1))))
 
--- days not over the last
+-- of days that climb the last is the latest
 
-early_so_far : (days : List ℕ) (n : ℕ) → n ≤ length days → all n (λ k. leb (get_or days k 0) last_day) ≡ list_all (λ d. leb d last_day) (take n days)
-unfolding all
-early_so_far days zero h = refl
-early_so_far days (suc n) h =
-    rw (early_so_far days n (omega arith))
-    (sym (list_all_more (λ d. leb d last_day) days n 0 (omega arith)) ∙ ap (λ (k : ℕ). list_all (λ d. leb d last_day) (take k days)) (add-one n))
+before_last : (days : List ℕ) → T (ascending days) → (k : ℕ) → k < length days → (k < length days - 1) ⊎ (length days - 1 ≤ k) → get_or days k 0 ≤ get_or days (length days - 1) 0
+before_last days climb k h (inl l) = let q : get_or days k 0 < get_or days (length days - 1) 0 = ascending_places days climb k (length days - 1) l (omega arith) in omega (arith, q)
+before_last days climb k h (inr g) = let e : k ≡ length days - 1 = omega arith in rw e (le_refl _)
 
-pub early_by_each : (days : List ℕ) → early days ≡ list_all (λ d. leb d last_day) days
+pub early_by_last : (days : List ℕ) → T (ascending days) → 0 < length days → leb (get_or days (length days - 1) 0) last_day ≡ early days
 unfolding early
-early_by_each days = early_so_far days (length days) (omega arith) ∙ ap (list_all (λ d. leb d last_day)) (take_all (length days) days (omega arith))
+early_by_last days climb h =
+    T_ext (leb (get_or days (length days - 1) 0) last_day) (all (length days) (λ k. leb (get_or days k 0) last_day))
+    (λ t. all_i (length days) (λ k. leb (get_or days k 0) last_day)
+    (λ k b.
+    let q : get_or days k 0 ≤ get_or days (length days - 1) 0 = before_last days climb k b (lt_or_ge k (length days - 1)) in
+    let r : get_or days (length days - 1) 0 ≤ last_day = leb→le (get_or days (length days - 1) 0) last_day t in
+    le→leb (get_or days k 0) last_day (omega (arith, q, r))))
+    (λ t. all_e (length days) (λ k. leb (get_or days k 0) last_day) t (length days - 1) (omega arith))
+
+pub early_of_none : (days : List ℕ) → length days ≡ 0 → true ≡ early days
+unfolding early
+early_of_none days e = T_ext true (all (length days) (λ k. leb (get_or days k 0) last_day)) (λ _. all_i (length days) (λ k. leb (get_or days k 0) last_day) (λ k b. absurd (omega (arith, b, e)))) (λ _. tt)

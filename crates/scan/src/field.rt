@@ -65,11 +65,15 @@ fn date_at(sheet: &[u8], at: usize, size: usize) -> Result<FieldRead, Refusal>
     }
 }
 
-// The days that an FD may list.
+// The days that an FD may list: they rise, so that the last of them is the latest.
 fn is_right(days: &[u16]) -> bool
     ensures { result ≡ (ascending days.now && early days.now) }
 {
-    days.is_sorted_by(|a, b| a < b) && days.iter().all(|day| *day <= LAST_DAY)
+    let n = days.len();
+    if !days.is_sorted_by(|a, b| a < b) {
+        return false;
+    }
+    n == 0 || days[n - 1] <= LAST_DAY
 }
 
 // So many numbers from an offset on, then zeros.

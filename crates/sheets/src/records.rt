@@ -3,7 +3,7 @@ ghost use Rattle.std.specs.Prelude.{◌≡◌, ◌-◌, ◌++◌, [], length, ta
 
 use crate::verbs::Verb;
 use arrayvec::ArrayVec;
-use vectors::line::Args;
+use vectors::line::{Args, NUMBERS_MOST};
 
 // More bytes than a sheet may have, so that a script can write one too long.
 const BYTES_ROOM: usize = 4200;
@@ -27,6 +27,15 @@ impl Sheet {
         }
     }
 
+    // The sheet begins anew, in place: a script has thousands of lines that begin one.
+    pub fn clear(&mut self)
+        ensures bytes { self.new.bytes.items ≡ [] }
+        ensures last { self.new.last ≡ 0 }
+    {
+        self.bytes.clear();
+        self.last = 0;
+    }
+
     pub fn as_slice(&self) -> &[u8]
         ensures { result.now ≡ self.now.bytes.items }
     {
@@ -47,9 +56,10 @@ impl Sheet {
     // FD: the numbers of the line are the days.
     fn put_days(&mut self, args: &Args) {
         self.put(b"FD");
-        self.put(&[args.numbers.len() as u8]);
-        for n in &args.numbers {
-            self.put(&n.short().to_be_bytes());
+        let count = args.count.min(NUMBERS_MOST);
+        self.put(&[count as u8]);
+        for k in 0..count {
+            self.put(&args.at(k).short().to_be_bytes());
         }
     }
 
@@ -61,13 +71,17 @@ impl Sheet {
         self.put(&args.at(3).signed().to_be_bytes());
     }
 
-    // What was added last stands so many times in all.
+    // What was added last stands so many times in all, as far as there is room: each byte more is the one that stands as many places
+    // before as were added.
     fn put_times(&mut self, times: u64) {
-        let mut again = ArrayVec::<u8, BYTES_ROOM>::new();
-        let added = self.bytes.get(self.last..).unwrap_or_default();
-        let _ = again.try_extend_from_slice(added);
-        for _ in 1..times {
-            self.put(&again);
+        let end = self.bytes.len();
+        let start = self.last.min(end);
+        let room = self.bytes.remaining_capacity();
+        let more = times.saturating_sub(1).saturating_mul((end - start) as u64);
+        for k in start..start + more.min(room as u64) as usize {
+            if let Some(byte) = self.bytes.get(k).copied() {
+                let _ = self.bytes.try_push(byte);
+            }
         }
     }
 

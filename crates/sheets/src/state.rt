@@ -12,6 +12,7 @@ use vectors::{line, print};
 pub struct State {
     sheet: Sheet,
     lent: Lent,
+    args: Args,
 }
 
 impl State {
@@ -22,22 +23,23 @@ impl State {
         State {
             sheet: Sheet::new(),
             lent: Lent::new(),
+            args: line::numbers(b""),
         }
     }
 
     // A line that makes something, or a note.
-    fn made<P: Print>(&mut self, rt: &P, verb: Verb, text: &[u8], args: &Args) -> io::Result<()>
+    fn made<P: Print>(&mut self, rt: &P, verb: Verb, text: &[u8]) -> io::Result<()>
         ensures err_space { OnErr result (self.new.sheet ≡ self.old.sheet) }
         ensures err_set { OnErr result (self.new.lent.set ≡ self.old.lent.set) }
     {
         match verb {
-            Verb::Sheet => self.sheet = Sheet::new(),
+            Verb::Sheet => self.sheet.clear(),
             Verb::Note => {
                 print::text(rt, text)?;
                 print::line_ends(rt)?;
             }
-            Verb::Lend => self.lent.lend(args),
-            _ => self.sheet.add(verb, text, args),
+            Verb::Lend => self.lent.lend(&self.args),
+            _ => self.sheet.add(verb, text, &self.args),
         }
         Ok(())
     }
@@ -48,19 +50,18 @@ impl State {
         ensures err_set { OnErr result (self.new.lent.set ≡ self.old.lent.set) }
     {
         let verb = Verb::of(text);
-        let args = line::numbers(text);
+        self.args.read(text);
         if verb.reads() {
-            return self
-                .lent
-                .run_read(rt, verb, text, &args, self.sheet.as_slice());
+            let sheet = self.sheet.as_slice();
+            return self.lent.run_read(rt, verb, text, &self.args, sheet);
         }
         if !verb.asks() {
-            return self.made(rt, verb, text, &args);
+            return self.made(rt, verb, text);
         }
         print::question(rt, text)?;
         match verb {
-            Verb::Settle => self.lent.settle(rt, &args)?,
-            _ => self.lent.ask(rt, verb, &args)?,
+            Verb::Settle => self.lent.settle(rt, &self.args)?,
+            _ => self.lent.ask(rt, verb, &self.args)?,
         }
         print::line_ends(rt)
     }

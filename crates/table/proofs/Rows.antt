@@ -14,9 +14,10 @@ use Rattle.theory.specs.Bound.{first}
 use Rattle.theory.specs.BoundLaws.{any_same}
 use Rattle.words.specs.Word.{bit, pack}
 use Rattle.words.specs.WordLaws.{bit-pack}
-use Rattle.table.specs.Layout.{rel, table_rows, table_row, at, size_of, some_first, some_first_row}
+use Rattle.table.specs.declared.layout.Row.{Row}
+use Rattle.table.specs.Layout.{rel, cell_start, table_rows, table_row, at, size_of, some_first, some_first_row}
 use Rattle.table.specs.LayoutLaws.{cell_bit, row_of_number}
-use Rattle.table.specs.Post.{CellWords}
+use Rattle.table.specs.Post.{CellWords, RowAt}
 use Rattle.table.specs.Cells.{stray_in, diagonal_in, mirror_in}
 use Rattle.table.specs.Shape.{stray_row, diagonal_row, mirror_row, mirror_above}
 use Rattle.table.proofs.Search.{Passed, Along, passed-all, passed_block, found_block, some_is, none_is, is_some, is_none, none_where, some_first_same}
@@ -52,6 +53,10 @@ mirror_row_lem t n i j {s} {m} {r} h es em er =
     er ∙ some_first_same 32 (mirror_in s m) (mirror_above (rel n t) i j)
     (λ a ha. rw (lt-ltb i j h) (any_same 32 (λ b. xor (bit (get_or s a 0) b) (bit (get_or m b 0) a)) (λ b. xor (rel n t i j a b) (rel n t j i b a))
     (λ b hb. rw (es.words, em.words, cell_bit n t i j a b ha hb, cell_bit n t j i b a hb ha))))
+
+-- a row found by its number
+pub numbered_row : {n i j a p : ℕ} {r : Row} → j < n → a < readings_most → p ≡ cell_start n i j → RowAt n (p + a) r → r ≡ record { i = i; j = j; a = a }
+numbered_row {n} {i} {j} {a} hj ha e f = f.is ∙ ap (λ (k : ℕ). table_row n (k + a)) e ∙ row_of_number n i j a hj ha
 
 -- a search over the rows cell by cell has passed so many cells
 pub record PassedCells (n : ℕ) (test : ℕ → ℕ → ℕ → Bool) (c : ℕ) : Type 0 where

@@ -52,7 +52,7 @@ pub fn cell(table: &[u32], n: usize, i: usize, j: usize) -> &[u32]
     &table[at..end]
 }
 
-// The row at number p in table order. docs/PROMISES.md names it; first_row counts no rows.
+// The row at number p in table order.
 pub fn row_at(n: usize, p: usize) -> Row
     requires { p < table_rows n }
     ensures { RowAt n p result }
@@ -65,7 +65,8 @@ pub fn row_at(n: usize, p: usize) -> Row
     }
 }
 
-// The first row, in table order, that fails a test: the closure finds the first that fails in one cell, if there is one.
+// The first row, in table order, that fails a test: the closure finds the first that fails in one cell, if there is one. A row of a
+// table is the one at its number; any other, of more fields than a table has, say, may have no number of 64 bits.
 pub fn first_row<F: Fn(usize, usize) -> Option<usize>>(n: usize, in_cell: F) -> Option<Row>
     requires { (i j : ℕ) → i < n → j < n → F.pre in_cell i j }
     ensures { (test : ℕ → ℕ → ℕ → Bool) → FindsIn n test (F.post in_cell) → result ≡ some_first_row n test }
@@ -73,11 +74,23 @@ pub fn first_row<F: Fn(usize, usize) -> Option<usize>>(n: usize, in_cell: F) -> 
     for i in 0..n {
         for j in 0..n {
             if let Some(a) = in_cell(i, j) {
-                return Some(Row { i, j, a });
+                return Some(found_row(n, i, j, a));
             }
         }
     }
     None
+}
+
+// Row a of cell (i, j), by its number where it is one of a table's.
+fn found_row(n: usize, i: usize, j: usize, a: usize) -> Row
+    requires { (i < n) × (j < n) }
+    ensures { result ≡ record { i = i; j = j; a = a } }
+{
+    if n <= FIELDS_MOST && a < READINGS_MOST {
+        row_at(n, cell_start(n, i, j) + a)
+    } else {
+        Row { i, j, a }
+    }
 }
 
 // The size of field i.

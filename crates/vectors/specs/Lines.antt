@@ -1,5 +1,6 @@
 -- Lines of a text.
-use Rattle.std.specs.Prelude.{◌≡◌, ℕ, ◌+◌, ◌≤◌, List, [], Option, length, take, drop, MatchOption}
+use Rattle.std.specs.Prelude.{◌≡◌, ◌≢◌, ◌<◌, slice_index, ℕ, ◌+◌, ◌≤◌, List, [], Option, length, take, drop, MatchOption}
+use Rattle.std.specs.List.{All}
 use Rattle.std.specs.Borrow.{Bor}
 use Rattle.vectors.specs.declared.file.Lines.{Lines}
 
@@ -12,7 +13,8 @@ pub record Ends (from r long : ℕ) : Type 0 where
 abbrev pub left : Lines → List ℕ
 left lines = lines.rest.now
 
--- a line comes out of the front of what is left, and the byte behind it, its line feed, is dropped with it
+-- a line without a line feed comes out of the front of what is left, and the byte behind it, its line feed, is dropped with it
 abbrev pub TakesLine : Lines → Option (Bor (List ℕ)) → Lines → Type 0
 TakesLine old line new = MatchOption line ((left old ≡ []) × (left new ≡ []))
-    (λ l. (l.now ≡ take (length l.now) (left old)) × (left new ≡ drop (length l.now + 1) (left old)))
+    (λ l. (l.now ≡ take (length l.now) (left old)) × (left new ≡ drop (length l.now + 1) (left old))
+    × All (λ b. b ≢ 10) l.now × (length l.now < length (left old) → slice_index (left old) (length l.now) ≡ 10))

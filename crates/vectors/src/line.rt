@@ -1,6 +1,6 @@
 // A line of a script: its numbers.
-ghost use Rattle.std.specs.Prelude.{◌≡◌, ◌+◌, ◌%◌, ◌^◌, min, map, IsTrue, IsFalse, ◌<◌, IfSome};
-ghost use Rattle.vectors.specs.Numbers.{number_at};
+ghost use Rattle.std.specs.Prelude.{◌≡◌, ◌+◌, ◌%◌, ◌^◌, ◌≤◌, min, map, IsTrue, IsFalse, ◌<◌, IfSome, length};
+ghost use Rattle.vectors.specs.Numbers.{values_of, number_at};
 
 use arrayvec::ArrayVec;
 
@@ -54,26 +54,75 @@ impl Number {
     }
 }
 
-// The decimal numbers of a line; those past the 32nd are left out.
-#[derive(Drop)]
+// The decimal numbers of a line, and whether a minus stands before each; those past the 32nd are left out. Arrays and a count, since it
+// is copied, as an ArrayVec is not.
+#[derive(Clone, Copy)]
 pub struct Args {
-    pub numbers: ArrayVec<Number, NUMBERS_MOST>,
+    pub values: [u64; NUMBERS_MOST],
+    pub minus: [bool; NUMBERS_MOST],
+    pub count: usize,
 }
 
 impl Args {
+    // One number more, as long as there is room.
+    fn add(&mut self, n: Number)
+        ensures { self.new.count ≤ self.old.count + 1 }
+    {
+        let count = self.count;
+        if count < NUMBERS_MOST {
+            self.values[count] = n.value;
+            self.minus[count] = n.minus;
+            self.count = count + 1;
+        }
+    }
+
+    // The numbers of a line in the place of those before, apart from what stands between them: each byte lengthens a number or ends it.
+    // A script's lines are read into one value, since a new one is zeroed and copied at every line.
+    pub fn read(&mut self, line: &[u8])
+        ensures { self.new.count ≤ length line.now }
+    {
+        self.count = 0;
+        let mut number = Number::default();
+        let mut inside = false;
+        for b in line {
+            if let Some(d) = digit(*b) {
+                number.value = lengthened(number.value, d);
+                inside = true;
+            } else {
+                if inside {
+                    self.add(number);
+                    number = Number::default();
+                    inside = false;
+                }
+                number.minus = number.minus || *b == b'-';
+            }
+        }
+        if inside {
+            self.add(number);
+        }
+    }
+
     // The number at a place, 0 where the line has none there.
     pub fn at(&self, k: usize) -> Number
         ensures { result ≡ number_at self.now k }
     {
-        self.numbers.get(k).copied().unwrap_or_default()
+        if k < self.count && k < NUMBERS_MOST {
+            Number {
+                value: self.values[k],
+                minus: self.minus[k],
+            }
+        } else {
+            Number::default()
+        }
     }
 
     // The numbers as bytes.
     pub fn bytes(&self) -> ArrayVec<u8, NUMBERS_MOST>
-        ensures { result.items ≡ map (λ n. n.value % 256) self.now.numbers.items }
+        ensures { result.items ≡ map (λ v. v % 256) (values_of self.now) }
     {
         let mut bytes = ArrayVec::new();
-        for n in self.numbers.as_slice() {
+        for k in 0..self.count.min(NUMBERS_MOST) {
+            let n = self.at(k);
             let _ = bytes.try_push(n.byte());
         }
         bytes
@@ -95,17 +144,13 @@ fn lengthened(value: u64, digit: u8) -> u64 {
     value % CUT * 10 + u64::from(digit)
 }
 
-// The numbers of a line, apart from what stands between them.
+// The numbers of a line.
 pub fn numbers(line: &[u8]) -> Args {
-    let mut numbers = ArrayVec::new();
-    let mut minus = false;
-    for run in line.chunk_by(|a, b| digit(*a).is_some() == digit(*b).is_some()) {
-        let mut digits = run.iter().filter_map(|b| digit(*b));
-        if let Some(first) = digits.next() {
-            let value = digits.fold(u64::from(first), lengthened);
-            let _ = numbers.try_push(Number { value, minus });
-        }
-        minus = run.contains(&b'-');
-    }
-    Args { numbers }
+    let mut args = Args {
+        values: [0; NUMBERS_MOST],
+        minus: [false; NUMBERS_MOST],
+        count: 0,
+    };
+    args.read(line);
+    args
 }

@@ -1,5 +1,7 @@
+use mathlib.Core.Path.{ap, ◌∙◌}
 use native.Mathlib.Nat.{le_refl, mul-le-mul}
 use native.Mathlib.Omega.{arith}
+use Rattle.std.specs.Prelude.{Some}
 use Rattle.table.proofs.Rows.{cells_same, cells_more, cells_found, cells_all}
 use Rattle.table.proofs.layout.first_row.Goals as goal
 
@@ -8,7 +10,8 @@ loop-j-init g c test finds = cells_same (c.loop-i.invariant test finds) (omega a
 
 pub returns-in-Some : goal.returns-in-Some
 returns-in-Some g c test finds =
-    cells_found _ _ _ _ (c.loop-j.invariant test finds) c.loop-i-test.true c.loop-j-test.true (finds _ _ _ c.loop-i-test.true c.loop-j-test.true c.in_cell.ensures) c.in-Some.is
+    ap Some c.found_row.ensures
+    ∙ cells_found _ _ _ _ (c.loop-j.invariant test finds) c.loop-i-test.true c.loop-j-test.true (finds _ _ _ c.loop-i-test.true c.loop-j-test.true c.in_cell.ensures) c.in-Some.is
 
 pub loop-j-preserved : goal.loop-j-preserved
 loop-j-preserved g c test finds =

@@ -2,5 +2,5 @@
 use Rattle.std.proofs.Common.{◌≡◌, ◌%◌, map, take}
 use Rattle.vectors.proofs.line.Args.bytes.Given as goal
 
-abbrev pub invariant-loop-n : goal.invariant-loop-n
-invariant-loop-n l = l.bytes.items ≡ map (λ n. n.value % 256) (take l.n-index l.self.numbers.items)
+abbrev pub invariant-loop-k : goal.invariant-loop-k
+invariant-loop-k l = l.bytes.items ≡ map (λ v. v % 256) (take l.k l.self.values)
